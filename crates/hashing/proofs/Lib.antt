@@ -1,0 +1,5 @@
+pub mod Answers
+pub mod Lists
+pub mod Padding
+pub mod Promises
+pub mod Words

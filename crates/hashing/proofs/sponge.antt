@@ -1,0 +1,3 @@
+pub mod Absorbing
+pub mod Finishing
+pub mod Squeezing

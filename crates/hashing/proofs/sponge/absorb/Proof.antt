@@ -1,0 +1,81 @@
+-- `absorb` goes on with the running hash: before turn i it is that of the message with the first i bytes.
+use mathlib.Core.Path.{_≡_}
+use mathlib.Core.List.{List, [], _∷_, _++_, append-nil, append-assoc}
+use mathlib.Core.Logic.{⊎-elim}
+use Prim.Native.Nat.{ℕ, _-_, _≤_, _<_}
+use native.Mathlib.Numerals.{add-one}
+use native.Mathlib.Omega.{arith}
+use lib.ListN.{length, take, getD}
+use lib.Seq.{take-suc, take-all}
+use borrow.Author.Needs.{needs}
+use Rattle.hashing.specs.Running.{running}
+use Rattle.hashing.specs.Sponge.{addByte}
+use Rattle.hashing.proofs.sponge.Absorbing.{held, byte-within, byte-full}
+use Rattle.hashing.proofs.sponge.absorb.Statement.{statement}
+use Rattle.hashing.proofs.sponge.absorb.Tie as tie
+
+abbrev Inv-loop : tie.InvT-loop
+Inv-loop rate bytes lanes₀ place₀ i₀ lanes place i =
+    (i ≤ length bytes)
+    × (place < rate)
+    × ((M : List ℕ) → held lanes₀ place₀ ≡ running rate M → held lanes place ≡ running rate (M ++ take i bytes))
+
+abbrev μ-loop : tie.MeasureT-loop
+μ-loop rate bytes lanes₀ place₀ i₀ lanes place i = length bytes - i
+
+-- after the `if` the hash has the turn's byte more
+joined : (c : tie.Joined1 Inv-loop μ-loop) →
+    let was = c .before .before .before .before .loop in
+    let given = c .before .before .before .before .before .before .before .args in
+    (c .if1 .place < given .rate)
+    × ((M : List ℕ) → held (was .lanes) (was .place) ≡ running (given .rate) M
+    → held (c .if1 .lanes) (c .if1 .place) ≡ running (given .rate) (M ++ (getD (given .bytes .now) (was .i) 0 ∷ [])))
+unfolding addByte
+joined c =
+    ⊎-elim
+    (λ w. (
+      omega arith,
+      λ M e. rw (w .2, w .3, w .1 .ensures, c .before .byte-in .ensures) (byte-full _ (omega arith) M _ e (w .0 .taken)),
+    ))
+    (λ w.
+    (omega arith, λ M e. rw (w .1, w .2, c .before .byte-in .ensures) (byte-within _ (omega arith) M _ e (omega arith))))
+    (c .if1 .came)
+
+loop-again : tie.Need-loop-again Inv-loop μ-loop
+loop-again c =
+    let was = c .before .before .before .before in
+    let bytes = was .before .before .before .args .bytes .now in
+    let more : was .loop .i < length bytes = omega arith in (
+      omega arith,
+      joined c .0,
+      λ M e.
+          rw (add-one, take-suc bytes (was .loop .i) 0 more, ← append-assoc)
+          (joined c .1 (M ++ take (was .loop .i) bytes) (was .loop .inv .2 M e)),
+    )
+
+returns : tie.Need-returns Inv-loop μ-loop
+returns c =
+    let was = c .before .loop in
+    let bytes = c .before .before .before .before .args .bytes .now in
+    let all : length bytes ≤ was .i = omega arith in
+    record { within = omega arith; goes-on = λ M e. rw (take-all (was .i) bytes all) at (was .inv .2 M e) }
+
+pub absorb-spec : {M : Type 1} → statement M
+absorb-spec =
+    tie.close
+    (tie.spec
+    Inv-loop
+    μ-loop
+    (λ c. (omega arith, omega arith, λ M e. rw append-nil e))
+    (λ c. omega arith)
+    (λ c. omega arith)
+    (λ c. omega arith)
+    (λ c κs. omega arith)
+    (λ c. omega arith)
+    (λ c. omega arith)
+    (λ c. omega arith)
+    (λ c κs. search needs)
+    (λ c. omega arith)
+    (λ c. omega arith)
+    loop-again
+    returns)

@@ -1,0 +1,33 @@
+-- What a public entry gives back, in document 01's words: one number, and the final content of each output.
+-- Assumes nothing.
+use mathlib.Core.Bool.{Bool, true, false}
+use mathlib.Core.List.{List, [], _∷_, map}
+use Prim.Native.Nat.{ℕ, zero, suc}
+use lib.ListN.{replicate}
+
+-- a number of document 01's table, and whether it applies
+pub record Reason : Type 0 where
+  pub applies : Bool
+  pub number : ℕ
+
+-- an output buffer: its actual length, and what it is to hold if nothing applies
+pub record Output : Type 0 where
+  pub room : ℕ
+  pub value : List ℕ
+
+-- the answer, and what each output buffer holds afterwards, in the order of the parameters
+pub data Outcome : Type 0 where
+  gives : ℕ → List (List ℕ) → Outcome
+
+-- "The smallest number that applies is given": the reasons stand in rising order; 0, done, where none applies
+unfoldable pub firstOf : List Reason → ℕ
+firstOf [] = 0
+firstOf (reason ∷ rest) = elim (reason .applies) [ true ↦ reason .number | false ↦ firstOf rest ]
+
+-- "Each refusal fills all output buffers, at their actual lengths, with zero"
+unfoldable pub content : ℕ → Output → List ℕ
+content zero output = output .value
+content (suc refusal) output = replicate (output .room) 0
+
+unfoldable pub settle : List Reason → List Output → Outcome
+settle reasons outputs = gives (firstOf reasons) (map (content (firstOf reasons)) outputs)
