@@ -1,0 +1,15 @@
+-- `vectors::main` is safe and ends. Nothing has to hold from turn to turn; the measure is the number of turns that are left. Assumes nothing.
+use borrow.Author.Needs.{needs}
+use Rattle.vectors.proofs.main.Statement.{statement}
+use Rattle.vectors.proofs.main.Tie as tie
+
+abbrev Inv-loop : tie.InvT-loop
+Inv-loop left₀ left = Unit {0}
+
+abbrev μ-loop : tie.MeasureT-loop
+μ-loop left₀ left = left
+
+pub main-spec : {M : Type 1} → statement M
+main-spec =
+    tie.close
+    (tie.spec Inv-loop μ-loop (λ c. tt) (λ c κs. tt) (λ c. search needs) (λ c. search needs) (λ c. tt) (λ c. tt) (λ c. tt))
