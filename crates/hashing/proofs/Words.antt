@@ -1,17 +1,16 @@
 -- The bits of numbers: what each operation on words does to the bit at a place. Assumes nothing.
-use mathlib.Core.Path.{_≡_, refl, sym, ap, ap₂, _∙_, fun-ext}
+use mathlib.Core.Path.{_≡_, refl, sym, ap, ap₂, _∙_}
 use mathlib.Core.Bool.{Bool, true, false, true≢false, false≢true, xor, _&&_, _||_}
 use mathlib.Core.List.{List}
 use Prim.Native.Nat.{ℕ, zero, suc, _+_, _-_, _*_, _/_, _%_, _^_, _≤_, _<_, zero-le}
-use native.Mathlib.Nat.{mod-lt, not-suc-le-zero, le-of-suc-le-suc, div-eq-of-lt, div-add-mod, div-one, lt-of-lt-of-le, zero-div, zero-mod, mul-mod-left, pow-suc, mul-assoc, add-comm, zero-lt-suc, mod-eq-of-lt, add-zero, mul-add-div, mul-add-mod-self-left, div-lt-iff-lt-mul, le-div-iff-mul-le, mul-comm, lt-of-le-of-lt}
+use native.Mathlib.Nat.{mod-lt, not-suc-le-zero, le-of-suc-le-suc, div-eq-of-lt, div-add-mod, div-one, lt-of-lt-of-le, mul-mod-left, mul-assoc, add-comm, zero-lt-suc, mod-eq-of-lt, add-zero, mul-add-div, mul-add-mod-self-left, div-lt-iff-lt-mul, le-div-iff-mul-le, mul-comm, lt-of-le-of-lt}
 use native.Mathlib.Numerals.{add-one}
 use native.Mathlib.Omega.{arith}
-use lib.Arith.{bin-ind, lt-one, digits-div, digits-mod}
+use lib.Arith.{bin-ind, lt-one}
 use lib.Bits.{bitAnd, bitOr, bitXor, differ, and-shr, or-shr, xor-shr, and-mod, or-mod, xor-mod, xor-step, xor-block}
 use lib.Dec.{eqb, lit<}
-use lib.ListN.{length, getD, drop, List·getD-eq-default}
-use lib.Pow.{pow-pos, pow-mono, shr-shr, shl-shr, split, mod-pow-add, mod-mod-pow, field, shr-lt, pow-add}
-use lib.Seq.{getD-drop}
+use lib.ListN.{length, getD, replicate, List·getD-eq-default}
+use lib.Pow.{pow-mono, shr-shr, shl-shr, mod-mod-pow, field, shr-lt, pow-add, pow-pos, mod-pow-add}
 use Rattle.hashing.specs.Lists.{bitAt, bits}
 
 -- ---- the operations of two words
@@ -62,10 +61,10 @@ bit-shr x n k = rw (shr-shr x n k, add-comm n k)
 pub bit-shl : (x n k : ℕ) → bitAt (x * 2 ^ n) (k + n) ≡ bitAt x k
 bit-shl x n k = sym (bit-shr (x * 2 ^ n) n k) ∙ ap (λ (y : ℕ). bitAt y k) (shl-shr x n)
 
--- no bit is set from place k on in a number below 2 ^ k
-pub bit-above : (x k : ℕ) → x < 2 ^ k → bitAt x k ≡ false
+-- a number of n bits has none from place n on
+pub bit-above : (x n k : ℕ) → x < 2 ^ n → n ≤ k → bitAt x k ≡ false
 unfolding bitAt
-bit-above x k h = rw (div-eq-of-lt h)
+bit-above x n k h above = rw (div-eq-of-lt (lt-of-lt-of-le h (pow-mono above)))
 
 pub bit-mod : (x m k : ℕ) → k < m → bitAt (x % 2 ^ m) k ≡ bitAt x k
 unfolding bitAt
@@ -125,7 +124,7 @@ shl-mod x j k = mod-pow-add (x * 2 ^ k) j k ∙ rw (shl-shr, mul-mod-left, add-z
 -- ---- lists of numbers of w bits
 
 pub bit-zero : (k : ℕ) → bitAt 0 k ≡ false
-bit-zero k = bit-above 0 k (pow-pos k)
+bit-zero k = bit-above 0 0 k (lit< tt) zero-le
 
 module _ (w : ℕ) (xs : List ℕ) where
   pub bits-at : {k : ℕ} (i e : ℕ) → k ≡ w * i + e → e < w → bits w xs k ≡ bitAt (getD xs i 0) e
@@ -147,13 +146,12 @@ module _ (w : ℕ) (xs : List ℕ) where
       let past : length xs ≤ k / w = le-div-iff-mul-le pos .1 (rw (mul-comm (length xs) w) h) in
       rw (List·getD-eq-default xs 0 past) (bit-zero (k % w))
 
-pub bits-drop : (w n : ℕ) (xs : List ℕ) → zero < w → bits w (drop n xs) ≡ (λ k. bits w xs (w * n + k))
-unfolding bits
-bits-drop w n xs pos =
-    fun-ext (λ k. rw (getD-drop n xs (k / w) 0, mul-add-div pos n k, mul-add-mod-self-left w n k))
+-- a list of zeros has no bit
+pub zero-at : (n i : ℕ) → _≡_ {A = ℕ} (getD (replicate n 0) i 0) 0
+zero-at zero i = refl
+zero-at (suc n) zero = refl
+zero-at (suc n) (suc i) = zero-at n i
 
-pub bits-same : (w n : ℕ) (xs ys : List ℕ) → zero < w → ((i : ℕ) → i < n → getD xs i 0 ≡ getD ys i 0)
-    → (k : ℕ) → k < w * n → bits w xs k ≡ bits w ys k
+pub bits-none : (w n k : ℕ) → bits w (replicate n 0) k ≡ false
 unfolding bits
-bits-same w n xs ys pos same k h =
-    ap (λ (x : ℕ). bitAt x (k % w)) (same (k / w) (div-lt-iff-lt-mul pos .1 (rw (mul-comm n w) h)))
+bits-none w n k = rw (zero-at n (k / w)) (bit-zero (k % w))

@@ -3,13 +3,13 @@ use mathlib.Core.Path.{_≡_, refl, sym, ap, _∙_, subst}
 use mathlib.Core.Bool.{Bool, true, false, _||_, or-false}
 use mathlib.Core.List.{List, [], _∷_}
 use Prim.Native.Nat.{ℕ, zero, suc, _+_, _-_, _*_, _/_, _%_, _^_, _≤_, _<_}
-use native.Mathlib.Nat.{mod-lt, mul-mod-left, add-zero, add-comm, le-trans}
+use native.Mathlib.Nat.{mod-lt, mul-mod-left, add-zero, add-comm}
 use native.Mathlib.Decide.{decLt}
 use native.Mathlib.Omega.{arith}
 use lib.Bits.{bitOr, bitXor, bitAnd, or-shifted}
 use lib.Dec.{lit<}
 use lib.ListN.{length, getD, set, length-set}
-use lib.Pow.{mod-pow-add, pow-mono, shl-shr, shr-shr, shr-lt}
+use lib.Pow.{shl-shr, shr-shr, shr-lt}
 use Rattle.hashing.specs.Keccak.{lane, plane, state, rotate, complement, parityC, effectD, theta, isAt, walk, offsetWithin, offset, rho, pi, chi, iota, rnd, rounds, keccakF}
 use Rattle.hashing.specs.Lists.{tab, bitAt}
 use Rattle.hashing.proofs.Words.{bit-or, bit-mod, bit-shl, bit-shl-below, bit-shr, bit-above, shl-mod}
@@ -43,8 +43,7 @@ rotate-bit n a z h fits below =
         let place : (z + 64 - n) % 64 ≡ z - n = omega arith in
         let back : z ≡ (z - n) + n = omega arith in
         let over : 64 ≤ z + (64 - n) = omega arith in
-        let past : a < 2 ^ (z + (64 - n)) = le-trans fits (pow-mono over) in
-        rw (bit-above a (z + (64 - n)) past, place) (or-false _ ∙ ap (bitAt (a * 2 ^ n)) back ∙ bit-shl a n (z - n))
+        rw (bit-above a 64 (z + (64 - n)) fits over, place) (or-false _ ∙ ap (bitAt (a * 2 ^ n)) back ∙ bit-shl a n (z - n))
 
 -- ρ turns by less than a lane's width
 within-lt : (t x y : ℕ) → offsetWithin t x y < 64

@@ -1,0 +1,14 @@
+pub mod Binary
+pub mod Chains
+pub mod Entries
+pub mod Examples
+pub mod Inverses
+pub mod Layouts
+pub mod Levels
+pub mod Packed
+pub mod Parity
+pub mod Powers
+pub mod Promises
+pub mod Ring
+pub mod Shifts
+pub mod Weights

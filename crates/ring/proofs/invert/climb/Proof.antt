@@ -1,0 +1,18 @@
+-- `climb` makes one product of the chain, and one more where the digit is 1.
+use borrow.Author.Needs.{needs}
+use borrow.Author.Tests.{eq-eqb, ne-eqb}
+use Rattle.ring.specs.Chain.{doubled, longer}
+use Rattle.ring.proofs.invert.climb.Statement.{statement}
+use Rattle.ring.proofs.invert.climb.Tie as tie
+
+returns : tie.Need-returns
+unfolding doubled longer
+returns c =
+    rw (eq-eqb _ _ (c .before .if1 .taken), ← c .before .before .step .ensures) (c .step2 .ensures)
+
+returns-2 : tie.Need-returns-2
+unfolding doubled longer
+returns-2 c = rw (ne-eqb _ _ (c .if1 .left)) (c .before .step .ensures)
+
+pub climb-spec : {M : Type 1} → statement M
+climb-spec = tie.close (tie.spec (λ c κs. search needs) (λ c κs. search needs) returns returns-2)

@@ -1,0 +1,63 @@
+-- `power` climbs the chain: with n digits of u still to read, what is to come ends where the whole chain ends.
+use mathlib.Core.Path.{_≡_, sym, ap, _∙_}
+use Prim.Native.Nat.{ℕ, _+_, _-_, _/_, _^_, _<_}
+use native.Mathlib.Omega.{arith}
+use Rattle.hashing.specs.Lists.{bitAt, bits}
+use Rattle.ring.specs.Polynomials.{InRing, spread}
+use Rattle.ring.specs.Chain.{Rung, climb, digits, top, chain}
+use Rattle.ring.proofs.Chains.{top-one}
+use Rattle.ring.proofs.invert.Laws.{next-rung, rung-in}
+use Rattle.ring.proofs.invert.power.Statement.{statement}
+use Rattle.ring.proofs.invert.power.Tie as tie
+
+abbrev Inv-loop : tie.InvT-loop
+Inv-loop r a u x₀ n₀ x n =
+    (n < 64) × InRing r (bits 64 x)
+    × (climb r (bits 64 a) (record { value = bits 64 x; length = u / 2 ^ n }) (digits n u)
+    ≡ climb r (bits 64 a) (record { value = bits 64 a; length = 1 }) (digits (top u) u))
+
+abbrev μ-loop : tie.MeasureT-loop
+μ-loop r a u x₀ n₀ x n = n
+
+loop-holds : tie.Need-loop-holds Inv-loop μ-loop
+loop-holds c =
+    let u : ℕ = c .before .args .r - 2 in
+    (omega arith, c .before .pre .1, rw (c .top .ensures .1, top-one u (omega arith)))
+
+loop-again : tie.Need-loop-again Inv-loop μ-loop
+unfolding bitAt
+loop-again c =
+    let was = c .before .before .loop in
+    let given = c .before .before .before .before .args in
+    let n : ℕ = was .n - 1 in
+    let one-less : was .n ≡ n + 1 = omega arith in (
+      omega arith,
+      rw (c .climb .ensures) (rung-in (given .r) (omega arith) (bits 64 (given .a)) _ _),
+      rw (c .climb .ensures) (sym (next-rung (given .r) (bits 64 (given .a)) (given .r - 2) n (bits 64 (was .x))) ∙ (rw one-less at (was .inv .2))),
+    )
+
+returns : tie.Need-returns Inv-loop μ-loop
+unfolding chain climb digits
+returns c =
+    let was = c .before .before .loop in
+    let end : was .n ≡ 0 = omega arith in
+    c .squared .ensures ∙ ap (λ (e : Rung). spread (c .before .before .before .before .args .r) 2 (e .value)) (rw end at (was .inv .2))
+
+pub power-spec : {M : Type 1} → statement M
+power-spec =
+    tie.close
+    (tie.spec
+    Inv-loop
+    μ-loop
+    (λ c. omega arith)
+    (λ c κs. omega arith)
+    loop-holds
+    (λ c. omega arith)
+    (λ c. omega arith)
+    (λ c. omega arith)
+    (λ c. omega arith)
+    (λ c κs. (omega arith, (c .before .before .before .pre .1, c .before .loop .inv .1)))
+    (λ c. omega arith)
+    loop-again
+    (λ c κs. omega arith)
+    returns)

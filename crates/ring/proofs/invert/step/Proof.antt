@@ -1,0 +1,23 @@
+-- `step` multiplies what `squared` gives, which is in the ring.
+use mathlib.Core.Path.{ap, _∙_}
+use native.Mathlib.Omega.{arith}
+use Prim.Native.Nat.{_^_}
+use borrow.Author.Needs.{needs}
+use Rattle.hashing.specs.Lists.{bits}
+use Rattle.ring.specs.Polynomials.{Poly, mul}
+use Rattle.ring.proofs.Powers.{spread-in}
+use Rattle.ring.proofs.invert.step.Statement.{statement}
+use Rattle.ring.proofs.invert.step.Tie as tie
+
+multiply-requires : tie.Need-multiply-requires
+multiply-requires c κs =
+    let given = c .before .args in
+    (omega arith, (rw (c .squared .ensures) (spread-in (given .r) (omega arith) (2 ^ given .k) (bits 64 (given .x))), c .before .pre .1))
+
+returns : tie.Need-returns
+returns c =
+    let given = c .before .before .args in
+    c .multiply .ensures ∙ ap (λ (p : Poly). mul (given .r) p (bits 64 (given .y))) (c .before .squared .ensures)
+
+pub step-spec : {M : Type 1} → statement M
+step-spec = tie.close (tie.spec (λ c κs. search needs) multiply-requires returns)

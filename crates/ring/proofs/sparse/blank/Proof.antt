@@ -1,0 +1,10 @@
+-- No bit of `blank` is set.
+use Rattle.ring.proofs.Packed.{bits-zeros}
+use Rattle.ring.proofs.sparse.blank.Statement.{statement}
+use Rattle.ring.proofs.sparse.blank.Tie as tie
+
+returns : tie.Need-returns
+returns c = bits-zeros 773
+
+pub blank-spec : {M : Type 1} → statement M
+blank-spec = tie.close (tie.spec returns)

@@ -1,0 +1,75 @@
+// A polynomial with one byte to a bit, twice in a row: a loop over its bits then needs no shift, and a step within it no wrap.
+use crate::WORDS;
+ghost use mathlib.Core.Path.{_≡_};
+ghost use Prim.Native.Nat.{ℕ, _+_, _*_, _/_, _%_, _^_, _≤_, _<_};
+ghost use lib.ListN.{length, getD};
+ghost use lib.Seq.{sets};
+ghost use Rattle.hashing.specs.Lists.{tab, bitAt, bits};
+ghost use Rattle.ring.specs.Held.{Held};
+ghost use Rattle.ring.specs.Polynomials.{Poly, bit};
+
+// Bytes for the bits of a polynomial of the largest level, twice.
+pub const TWICE_BITS: usize = 49408;
+
+// The digits of a byte, each in a byte of its own: of seven copies of the low seven digits, seven places apart, copy m has digit m at
+// place 8 m. The copies do not overlap.
+fn digits(b: u64) -> u64
+    requires { ⌜ b < 256 ⌝ }
+    ensures { λ v. ⌜ ((m : ℕ) → m < 8 → v / 2 ^ (8 * m) % 256 ≡ bit (bitAt b m)) ⌝ }
+{
+    (((b % 128) * 0x40810204081) & 0x1010101010101) | ((b / 128) << 56)
+}
+
+// The bytes of a word, the lowest first. (Written out, the eight stores become one.)
+fn put(out: &mut [u8], at: usize, v: u64)
+    requires { ⌜ at + 8 ≤ length (now out) ⌝ }
+    ensures { λ _. ⌜ now (out .exit) ≡ sets (now (out .entry)) at (tab 8 (λ m. v / 2 ^ (8 * m) % 256)) ⌝ }
+{
+    out[at] = (v % 256) as u8;
+    out[at + 1] = ((v >> 8) % 256) as u8;
+    out[at + 2] = ((v >> 16) % 256) as u8;
+    out[at + 3] = ((v >> 24) % 256) as u8;
+    out[at + 4] = ((v >> 32) % 256) as u8;
+    out[at + 5] = ((v >> 40) % 256) as u8;
+    out[at + 6] = ((v >> 48) % 256) as u8;
+    out[at + 7] = ((v >> 56) % 256) as u8;
+}
+
+// The bits of the n lowest bytes of x.
+fn lay(x: &[u64], n: usize, out: &mut [u8])
+    requires { ⌜ (n ≤ 8 * length (now x)) × (8 * n ≤ length (now out)) × (n ≤ 3088) ⌝ }
+    ensures { λ _. ⌜ ((k : ℕ) → k < 8 * n → getD (now (out .exit)) k 0 ≡ bit (bits 64 (now (x .entry)) k)) ⌝ }
+{
+    let mut i = 0;
+    while i < n {
+        let b = (x[i / 8] >> (8 * (i % 8))) % 256;
+        put(out, 8 * i, digits(b));
+        i += 1;
+    }
+}
+
+// The first r bytes once more.
+fn repeat(out: &mut [u8], r: usize)
+    requires { ⌜ (r < 24704) × (r + r ≤ length (now out)) ⌝ }
+    ensures { λ _. ⌜ ((a : Poly) → ((k : ℕ) → k < r → getD (now (out .entry)) k 0 ≡ bit (a k)) → Held r a (now (out .exit))) ⌝ }
+{
+    let mut i = 0;
+    while i < r {
+        out[r + i] = out[i];
+        i += 1;
+    }
+}
+
+fn blank() -> [u8; TWICE_BITS] {
+    [0u8; TWICE_BITS]
+}
+
+pub fn unpacked(r: usize, x: [u64; WORDS]) -> [u8; TWICE_BITS]
+    requires { ⌜ r < 24704 ⌝ }
+    ensures { λ d. ⌜ Held r (bits 64 x) d ⌝ }
+{
+    let mut d = blank();
+    lay(&x, (r + 7) / 8, &mut d);
+    repeat(&mut d, r);
+    d
+}
