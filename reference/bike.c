@@ -1,0 +1,309 @@
+/* The entries, with their refusals: the smallest number that applies, and zeros in every output. */
+#include "bike.h"
+
+#include <string.h>
+
+#include "decoder.h"
+#include "keccak.h"
+#include "ring.h"
+#include "scheme.h"
+#include "wrong.h"
+
+enum form { POLYNOMIAL, CIPHERTEXT, PRIVATE_KEY, SEED, SHORT };
+
+/* A lent buffer; exactly one of in and out is used. */
+struct lent {
+    enum form form;
+    const uint8_t *in;
+    uint8_t *out;
+    size_t n;
+};
+
+static struct lent input(enum form form, const uint8_t *in, size_t n)
+{
+    return (struct lent){form, in, NULL, n};
+}
+
+static struct lent output(enum form form, uint8_t *out, size_t n)
+{
+    return (struct lent){form, NULL, out, n};
+}
+
+static size_t bytes_of(const struct level *v, enum form form)
+{
+    switch (form) {
+    case POLYNOMIAL: return polynomial_bytes(v);
+    case CIPHERTEXT: return ciphertext_bytes(v);
+    case PRIVATE_KEY: return private_key_bytes(v);
+    case SEED: return SEED_BYTES;
+    default: return SHORT_BYTES;
+    }
+}
+
+static bool length_wrong(const struct level *v, const struct lent *b)
+{
+    return wrong(W_AT_LEAST) ? b->n < bytes_of(v, b->form) : b->n != bytes_of(v, b->form);
+}
+
+/* The pad is in the last byte of a polynomial and of a ciphertext's c0. */
+static bool pad_set(const struct level *v, const struct lent *b)
+{
+    size_t last = polynomial_bytes(v) - 1;
+    uint8_t pad = (uint8_t)(v->r % 8 == 0 ? 0 : 0xff << v->r % 8);
+    if (wrong(W_PAD_BIT_3))
+        pad = (uint8_t)(1u << v->r % 8);
+    if (b->in == NULL || (b->form != POLYNOMIAL && b->form != CIPHERTEXT))
+        return false;
+    if (wrong(W_NO_C0_PAD) && b->form == CIPHERTEXT)
+        return false;
+    if (wrong(W_C1_PAD) && b->form == CIPHERTEXT)
+        last = ciphertext_bytes(v) - 1;
+    return b->n > last && (b->in[last] & pad) != 0;
+}
+
+static bool key_bad(const struct level *v, const struct lent *b)
+{
+    if (b->in == NULL || b->form != PRIVATE_KEY || b->n < private_key_bytes(v))
+        return false;
+    struct key key = key_of_bytes(v, b->in);
+    return !key_is_good(v, &key);
+}
+
+static bool any(bool (*bad)(const struct level *, const struct lent *), const struct level *v,
+                const struct lent lent[], size_t n)
+{
+    for (size_t i = 0; i < n; i++)
+        if (bad(v, &lent[i]))
+            return true;
+    return false;
+}
+
+/* The smallest of 1 to 4 that applies, or 0. */
+static uint32_t refusal(const struct level *v, const struct lent lent[], size_t n)
+{
+    if (v == NULL)
+        return 1;
+    if (wrong(W_THREE_BEFORE_TWO) && any(pad_set, v, lent, n))
+        return 3;
+    if (any(length_wrong, v, lent, n))
+        return 2;
+    if (wrong(W_FOUR_BEFORE_THREE) && any(key_bad, v, lent, n))
+        return 4;
+    if (any(pad_set, v, lent, n))
+        return 3;
+    if (any(key_bad, v, lent, n))
+        return 4;
+    return 0;
+}
+
+/* Whether a wrong reading leaves this output as it is. */
+static bool left_alone(uint32_t answer, const struct level *v, const struct lent *b)
+{
+    return wrong(W_LEAVES_BYTES) || (wrong(W_LEVEL_LEAVES) && answer == 1)
+           || (wrong(W_LENGTH_LEAVES) && answer == 2 && length_wrong(v, b))
+           || (wrong(W_FAILURE_LEAVES) && answer == 6);
+}
+
+/* The answer; a refusal fills each output with zero. */
+static uint32_t finish(uint32_t answer, const struct level *v, const struct lent lent[], size_t n)
+{
+    for (size_t i = 0; i < n; i++)
+        if (answer != 0 && lent[i].out != NULL && !left_alone(answer, v, &lent[i]))
+            for (size_t k = 0; k < lent[i].n; k++)
+                lent[i].out[k] = 0;
+    return answer;
+}
+
+uint32_t ref_shake256(const uint8_t *m, size_t mn, uint8_t *out, size_t on)
+{
+    struct sponge s;
+    shake256_start(&s);
+    sponge_absorb(&s, m, mn);
+    shake256_finish(&s);
+    sponge_squeeze(&s, out, on);
+    return wrong(W_EMPTY_OUTPUT) && on == 0 ? 2 : 0;
+}
+
+uint32_t ref_sha3_384(const uint8_t *m, size_t mn, uint8_t *out, size_t on)
+{
+    const struct lent lent[] = {output(SHORT, out, on)};
+    if (on != SHA3_384_BYTES && !(wrong(W_SHORT_DIGEST) && on < SHA3_384_BYTES))
+        return finish(2, NULL, lent, 1);
+    struct sponge s;
+    sha3_384_start(&s);
+    sponge_absorb(&s, m, mn);
+    sha3_384_finish(&s);
+    sponge_squeeze(&s, out, on);
+    return 0;
+}
+
+uint32_t ref_product(uint32_t level, const uint8_t *a, size_t an, const uint8_t *b, size_t bn,
+                     uint8_t *out, size_t on)
+{
+    const struct level *v = level_of(level);
+    const struct lent lent[] = {input(POLYNOMIAL, a, an), input(POLYNOMIAL, b, bn), output(POLYNOMIAL, out, on)};
+    uint32_t answer = refusal(v, lent, 3);
+    if (answer == 0) {
+        struct poly pa = poly_of_bytes(a, polynomial_bytes(v));
+        struct poly pb = poly_of_bytes(b, polynomial_bytes(v));
+        struct poly product = poly_product(v->r, &pa, &pb);
+        poly_to_bytes(&product, out, polynomial_bytes(v));
+    }
+    return finish(answer, v, lent, 3);
+}
+
+uint32_t ref_inverse(uint32_t level, const uint8_t *a, size_t an, uint8_t *out, size_t on)
+{
+    const struct level *v = level_of(level);
+    const struct lent lent[] = {input(POLYNOMIAL, a, an), output(POLYNOMIAL, out, on)};
+    uint32_t answer = refusal(v, lent, 2);
+    if (answer == 0) {
+        struct poly inverse, pa = poly_of_bytes(a, polynomial_bytes(v));
+        if (!poly_inverse(v->r, &pa, &inverse))
+            answer = 5;
+        poly_to_bytes(&inverse, out, polynomial_bytes(v));
+    }
+    return finish(answer, v, lent, 2);
+}
+
+static void write_error(const struct level *v, const struct poly e[2], uint8_t *e0, uint8_t *e1)
+{
+    poly_to_bytes(&e[0], e0, polynomial_bytes(v));
+    poly_to_bytes(&e[1], e1, polynomial_bytes(v));
+}
+
+uint32_t ref_error_of(uint32_t level, const uint8_t *m, size_t mn, uint8_t *e0, size_t e0n, uint8_t *e1, size_t e1n)
+{
+    const struct level *v = level_of(level);
+    const struct lent lent[] = {input(SHORT, m, mn), output(POLYNOMIAL, e0, e0n), output(POLYNOMIAL, e1, e1n)};
+    uint32_t answer = refusal(v, lent, 3);
+    if (answer == 0) {
+        struct poly e[2];
+        hash_H(v, m, e);
+        write_error(v, e, e0, e1);
+    }
+    return finish(answer, v, lent, 3);
+}
+
+uint32_t ref_decode(uint32_t level, const uint8_t *key, size_t keyn, const uint8_t *s, size_t sn,
+                    uint8_t *e0, size_t e0n, uint8_t *e1, size_t e1n)
+{
+    const struct level *v = level_of(level);
+    const struct lent lent[] = {input(PRIVATE_KEY, key, keyn), input(POLYNOMIAL, s, sn),
+                                output(POLYNOMIAL, e0, e0n), output(POLYNOMIAL, e1, e1n)};
+    uint32_t answer = refusal(v, lent, 4);
+    if (answer == 0) {
+        struct key k = key_of_bytes(v, key);
+        struct poly e[2], syndrome = poly_of_bytes(s, polynomial_bytes(v));
+        if (!bgf(v, &k, &syndrome, e))
+            answer = 6;
+        write_error(v, e, e0, e1);
+    }
+    return finish(answer, v, lent, 4);
+}
+
+/* h = h1 / h0; false exactly if h0 has no inverse. */
+static bool public_key(const struct level *v, const struct key *key, struct poly *h)
+{
+    struct poly over = key_half(v, key, wrong(W_H0_OVER_H1) ? 0 : 1);
+    struct poly under = key_half(v, key, wrong(W_H0_OVER_H1) ? 1 : 0);
+    struct poly inverse;
+    if (!poly_inverse(v->r, &under, &inverse))
+        return false;
+    *h = poly_product(v->r, &over, &inverse);
+    return true;
+}
+
+uint32_t ref_make_key(uint32_t level, const uint8_t *seed, size_t seedn,
+                      uint8_t *pub, size_t pubn, uint8_t *priv, size_t privn)
+{
+    const struct level *v = level_of(level);
+    const struct lent lent[] = {input(SEED, seed, seedn), output(POLYNOMIAL, pub, pubn),
+                                output(PRIVATE_KEY, priv, privn)};
+    uint32_t answer = refusal(v, lent, 3);
+    if (answer == 0) {
+        struct key key = key_of_seed(v, seed);
+        struct poly h;
+        if (!public_key(v, &key, &h))
+            return finish(5, v, lent, 3);
+        poly_to_bytes(&h, pub, polynomial_bytes(v));
+        key_to_bytes(v, &key, priv);
+    }
+    return finish(answer, v, lent, 3);
+}
+
+static void xor_short(uint8_t *out, const uint8_t *a, const uint8_t *b)
+{
+    for (size_t i = 0; i < SHORT_BYTES; i++)
+        out[i] = a[i] ^ b[i];
+}
+
+/* c0 = e0 + e1·h; c1 = m xor L(e0, e1) */
+static void wrap_message(const struct level *v, const struct poly *h, const uint8_t *m, uint8_t *c, uint8_t *k)
+{
+    struct poly e[2];
+    uint8_t hidden[SHORT_BYTES];
+    hash_H(v, m, e);
+    struct poly c0 = poly_product(v->r, &e[1], h);
+    c0 = poly_sum(&e[0], &c0);
+    poly_to_bytes(&c0, c, polynomial_bytes(v));
+    hash_L(v, e, hidden);
+    xor_short(c + polynomial_bytes(v), m, hidden);
+    hash_K(v, m, c, k);
+}
+
+uint32_t ref_wrap(uint32_t level, const uint8_t *h, size_t hn, const uint8_t *m, size_t mn,
+                  uint8_t *c, size_t cn, uint8_t *k, size_t kn)
+{
+    const struct level *v = level_of(level);
+    const struct lent lent[] = {input(POLYNOMIAL, h, hn), input(SHORT, m, mn), output(CIPHERTEXT, c, cn),
+                                output(SHORT, k, kn)};
+    uint32_t answer = refusal(v, lent, 4);
+    if (answer == 0) {
+        struct poly ph = poly_of_bytes(h, polynomial_bytes(v));
+        if (wrong(W_ZERO_KEY_REFUSED) && poly_weight(&ph) == 0)
+            return finish(5, v, lent, 4);
+        wrap_message(v, &ph, m, c, k);
+    }
+    return finish(answer, v, lent, 4);
+}
+
+static bool same_error(const struct level *v, const struct poly e[2], const struct poly f[2])
+{
+    if (wrong(W_OPEN_UNCHECKED))
+        return true;
+    if (wrong(W_OPEN_WEIGHT))
+        return poly_weight(&e[0]) + poly_weight(&e[1]) == v->t;
+    return poly_equal(&e[0], &f[0]) && poly_equal(&e[1], &f[1]) && !wrong(W_OPEN_SIGMA);
+}
+
+/* The key is K(m', c) if e' = H(m'), else K(sigma, c); gives whether it is the first. */
+static bool open_ciphertext(const struct level *v, const struct key *key, const uint8_t *c, uint8_t *k)
+{
+    struct poly e[2], f[2], h0 = key_half(v, key, 0);
+    uint8_t hidden[SHORT_BYTES], m[SHORT_BYTES];
+    struct poly c0 = poly_of_bytes(c, polynomial_bytes(v));
+    struct poly syndrome = poly_product(v->r, &h0, &c0);
+    if (!bgf(v, key, &syndrome, e) && !wrong(W_OPEN_KEEPS_E))
+        e[0] = e[1] = poly_zero();
+    hash_L(v, e, hidden);
+    xor_short(m, c + polynomial_bytes(v), hidden);
+    hash_H(v, m, f);
+    bool same = same_error(v, e, f);
+    hash_K(v, same ? m : key->sigma, c, k);
+    return same;
+}
+
+uint32_t ref_open(uint32_t level, const uint8_t *key, size_t keyn, const uint8_t *c, size_t cn, uint8_t *k, size_t kn)
+{
+    const struct level *v = level_of(level);
+    const struct lent lent[] = {input(PRIVATE_KEY, key, keyn), input(CIPHERTEXT, c, cn), output(SHORT, k, kn)};
+    uint32_t answer = refusal(v, lent, 3);
+    if (answer == 0) {
+        struct key private = key_of_bytes(v, key);
+        bool same = open_ciphertext(v, &private, c, k);
+        if (wrong(W_OPEN_TELLS) && !same)
+            answer = 6;
+    }
+    return finish(answer, v, lent, 3);
+}

@@ -1,0 +1,38 @@
+/* The second program's ten entries. A buffer is a pointer and its length; buffers must not overlap.
+ *
+ * Answers: 0 done; 1 level is neither 1 nor 3; 2 a buffer has a wrong length; 3 a pad bit is set; 4 a private key's
+ * position is >= r or not rising; 5 no inverse exists; 6 decoding failed; 7 record cut; 8 record of unknown kind;
+ * 9 record length not its kind's. The smallest number that applies is given, after 1 nothing else is looked at, and a
+ * refusal fills all outputs with zero at their actual lengths. */
+#ifndef REF_BIKE_H
+#define REF_BIKE_H
+
+#include <stddef.h>
+#include <stdint.h>
+
+struct ref_record {
+    uint32_t level, thing, body; /* all 0 after a refusal */
+};
+
+uint32_t ref_shake256(const uint8_t *m, size_t mn, uint8_t *out, size_t on);
+uint32_t ref_sha3_384(const uint8_t *m, size_t mn, uint8_t *out, size_t on);
+
+uint32_t ref_product(uint32_t level, const uint8_t *a, size_t an, const uint8_t *b, size_t bn,
+                     uint8_t *out, size_t on);
+uint32_t ref_inverse(uint32_t level, const uint8_t *a, size_t an, uint8_t *out, size_t on);
+
+uint32_t ref_error_of(uint32_t level, const uint8_t *m, size_t mn,
+                      uint8_t *e0, size_t e0n, uint8_t *e1, size_t e1n);
+uint32_t ref_decode(uint32_t level, const uint8_t *key, size_t keyn, const uint8_t *s, size_t sn,
+                    uint8_t *e0, size_t e0n, uint8_t *e1, size_t e1n);
+
+uint32_t ref_make_key(uint32_t level, const uint8_t *seed, size_t seedn,
+                      uint8_t *pub, size_t pubn, uint8_t *priv, size_t privn);
+uint32_t ref_wrap(uint32_t level, const uint8_t *h, size_t hn, const uint8_t *m, size_t mn,
+                  uint8_t *c, size_t cn, uint8_t *k, size_t kn);
+uint32_t ref_open(uint32_t level, const uint8_t *key, size_t keyn, const uint8_t *c, size_t cn,
+                  uint8_t *k, size_t kn);
+
+uint32_t ref_read_record(const uint8_t *bytes, size_t n, struct ref_record *record);
+
+#endif

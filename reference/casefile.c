@@ -1,0 +1,165 @@
+/* Case files: reading, writing and running a case. */
+#include "casefile.h"
+
+#include <stdlib.h>
+#include <string.h>
+
+#include "scheme.h"
+
+static const struct {
+    unsigned ins, outs;
+} shapes[ENTRIES] = {
+    [SHAKE256] = {1, 1}, [SHA3_384] = {1, 1}, [PRODUCT] = {2, 1},  [INVERSE] = {1, 1}, [ERROR_OF] = {1, 2},
+    [DECODE] = {2, 2},   [MAKE_KEY] = {1, 2}, [WRAP] = {2, 2},     [OPEN] = {2, 1},    [READ_RECORD] = {1, 0},
+};
+
+unsigned case_ins(uint32_t entry)
+{
+    return shapes[entry].ins;
+}
+
+unsigned case_outs(uint32_t entry)
+{
+    return shapes[entry].outs;
+}
+
+static bool read_number(FILE *file, uint32_t *number)
+{
+    uint8_t bytes[4];
+    if (fread(bytes, 1, 4, file) != 4)
+        return false;
+    *number = little_endian(bytes, 4);
+    return true;
+}
+
+static bool read_length(FILE *file, size_t *n)
+{
+    uint32_t number;
+    if (!read_number(file, &number) || number > BUFFER_MAX)
+        return false;
+    *n = number;
+    return true;
+}
+
+enum reading case_read(FILE *file, struct test_case *c)
+{
+    int entry = getc(file);
+    if (entry == EOF)
+        return CASE_END;
+    c->entry = (uint32_t)entry;
+    if (entry < 1 || entry >= ENTRIES || !read_number(file, &c->level))
+        return CASE_BAD;
+    for (unsigned i = 0; i < case_ins(c->entry); i++)
+        if (!read_length(file, &c->in[i].n) || fread(c->in[i].bytes, 1, c->in[i].n, file) != c->in[i].n)
+            return CASE_BAD;
+    for (unsigned i = 0; i < case_outs(c->entry); i++)
+        if (!read_length(file, &c->out[i]))
+            return CASE_BAD;
+    return CASE_READ;
+}
+
+static void write_number(FILE *file, size_t number)
+{
+    for (int i = 0; i < 4; i++)
+        putc((int)(number >> 8 * i & 0xff), file);
+}
+
+void case_write(FILE *file, const struct test_case *c)
+{
+    putc((int)c->entry, file);
+    write_number(file, c->level);
+    for (unsigned i = 0; i < case_ins(c->entry); i++) {
+        write_number(file, c->in[i].n);
+        fwrite(c->in[i].bytes, 1, c->in[i].n, file);
+    }
+    for (unsigned i = 0; i < case_outs(c->entry); i++)
+        write_number(file, c->out[i]);
+}
+
+static uint32_t call(const struct test_case *c, uint8_t *const in[2], uint8_t *const out[2], struct ref_record *record)
+{
+    const uint8_t *a = in[0], *b = in[1];
+    size_t an = c->in[0].n, bn = c->in[1].n;
+    uint8_t *x = out[0], *y = out[1];
+    size_t xn = c->out[0], yn = c->out[1];
+    switch (c->entry) {
+    case SHAKE256: return ref_shake256(a, an, x, xn);
+    case SHA3_384: return ref_sha3_384(a, an, x, xn);
+    case PRODUCT: return ref_product(c->level, a, an, b, bn, x, xn);
+    case INVERSE: return ref_inverse(c->level, a, an, x, xn);
+    case ERROR_OF: return ref_error_of(c->level, a, an, x, xn, y, yn);
+    case DECODE: return ref_decode(c->level, a, an, b, bn, x, xn, y, yn);
+    case MAKE_KEY: return ref_make_key(c->level, a, an, x, xn, y, yn);
+    case WRAP: return ref_wrap(c->level, a, an, b, bn, x, xn, y, yn);
+    case OPEN: return ref_open(c->level, a, an, b, bn, x, xn);
+    default: return ref_read_record(a, an, record);
+    }
+}
+
+/* Memory of exactly n bytes, so that a sanitizer sees every step beyond it. */
+static uint8_t *exactly(size_t n)
+{
+    uint8_t *bytes = malloc(n);
+    if (bytes == NULL && n > 0) {
+        fputs("out of memory\n", stderr);
+        exit(2);
+    }
+    return bytes;
+}
+
+void case_run(const struct test_case *c, struct result *result)
+{
+    uint8_t *in[2] = {NULL, NULL}, *out[2] = {NULL, NULL};
+    for (unsigned i = 0; i < case_ins(c->entry); i++) {
+        in[i] = exactly(c->in[i].n);
+        for (size_t k = 0; k < c->in[i].n; k++)
+            in[i][k] = c->in[i].bytes[k];
+    }
+    for (unsigned i = 0; i < case_outs(c->entry); i++) {
+        out[i] = exactly(c->out[i]);
+        for (size_t k = 0; k < c->out[i]; k++)
+            out[i][k] = 0xa5;
+    }
+    result->record = (struct ref_record){0, 0, 0};
+    result->answer = call(c, in, out, &result->record);
+    for (unsigned i = 0; i < case_outs(c->entry); i++) {
+        result->out[i].n = c->out[i];
+        for (size_t k = 0; k < c->out[i]; k++)
+            result->out[i].bytes[k] = out[i][k];
+    }
+    for (int i = 0; i < 2; i++) {
+        free(in[i]);
+        free(out[i]);
+    }
+}
+
+bool case_same(const struct test_case *c, const struct result *a, const struct result *b)
+{
+    if (a->answer != b->answer || a->record.level != b->record.level || a->record.thing != b->record.thing
+        || a->record.body != b->record.body)
+        return false;
+    for (unsigned i = 0; i < case_outs(c->entry); i++)
+        if (memcmp(a->out[i].bytes, b->out[i].bytes, c->out[i]) != 0)
+            return false;
+    return true;
+}
+
+static void print_hex(FILE *file, const struct buffer *b)
+{
+    putc(' ', file);
+    if (b->n == 0)
+        putc('-', file);
+    for (size_t i = 0; i < b->n; i++)
+        fprintf(file, "%02x", b->bytes[i]);
+}
+
+void case_print(FILE *file, unsigned long ordinal, const struct test_case *c, const struct result *result)
+{
+    fprintf(file, "%lu %lu %lu", ordinal, (unsigned long)c->entry, (unsigned long)result->answer);
+    for (unsigned i = 0; i < case_outs(c->entry); i++)
+        print_hex(file, &result->out[i]);
+    if (c->entry == READ_RECORD)
+        fprintf(file, " %lu %lu %lu", (unsigned long)result->record.level, (unsigned long)result->record.thing,
+                (unsigned long)result->record.body);
+    putc('\n', file);
+}

@@ -1,0 +1,49 @@
+/* Case files: a case drives one entry with buffers of any length.
+ *
+ * A case is the entry (1 byte), the level (4 bytes, little-endian, like all lengths), each input buffer (its length,
+ * then its bytes) and each output buffer's length. It is answered by a line: ordinal, entry, answer, each output in hex
+ * (- if empty), or level, thing and body length for a record. The last line is `end N`. */
+#ifndef REF_CASEFILE_H
+#define REF_CASEFILE_H
+
+#include <stdbool.h>
+#include <stddef.h>
+#include <stdint.h>
+#include <stdio.h>
+
+#include "bike.h"
+
+enum { BUFFER_MAX = 16384, CASES_MAX = 65536 };
+
+enum entry { SHAKE256 = 1, SHA3_384, PRODUCT, INVERSE, ERROR_OF, DECODE, MAKE_KEY, WRAP, OPEN, READ_RECORD, ENTRIES };
+
+struct buffer {
+    size_t n;
+    uint8_t bytes[BUFFER_MAX];
+};
+
+struct test_case {
+    uint32_t entry, level;
+    struct buffer in[2];
+    size_t out[2]; /* lengths */
+};
+
+struct result {
+    uint32_t answer;
+    struct ref_record record;
+    struct buffer out[2];
+};
+
+unsigned case_ins(uint32_t entry);
+unsigned case_outs(uint32_t entry);
+
+enum reading { CASE_READ, CASE_END, CASE_BAD };
+enum reading case_read(FILE *file, struct test_case *c);
+void case_write(FILE *file, const struct test_case *c);
+
+/* Calls the entry, each output filled with a5 (hex) before. */
+void case_run(const struct test_case *c, struct result *result);
+bool case_same(const struct test_case *c, const struct result *a, const struct result *b);
+void case_print(FILE *file, unsigned long ordinal, const struct test_case *c, const struct result *result);
+
+#endif

@@ -1,0 +1,306 @@
+/* The case set that a repository keeps: each rule and each refusal, few bytes, and every wrong reading told.
+ * Level 1 is tried in full; of Level 3, whose buffers are twice as long, what is told by few cases. */
+#include <string.h>
+
+#include "cases.h"
+#include "generator.h"
+
+static bool in_full(const struct level *v)
+{
+    return v->number == 1;
+}
+
+static void committed_hashes(struct source *g)
+{
+    static const struct {
+        size_t message, digest;
+    } shake[] = {{0, 0},   {0, 64},   {1, 1},    {135, 32}, {136, 32}, {137, 32},  {271, 32},
+                 {272, 32}, {273, 32}, {32, 135}, {32, 136}, {32, 137}, {32, 568}, {2000, 0}};
+    static const size_t sha3[] = {0, 1, 103, 104, 105, 207, 208, 209, 1605};
+    static const size_t bad_digests[] = {0, 32, 47, 49, 64};
+    struct test_case c;
+    for (size_t i = 0; i < sizeof shake / sizeof shake[0]; i++) {
+        case_hash(&c, g, SHAKE256, shake[i].message, shake[i].digest);
+        emit(&c);
+    }
+    for (size_t i = 0; i < sizeof sha3 / sizeof sha3[0]; i++) {
+        case_hash(&c, g, SHA3_384, sha3[i], 48);
+        emit(&c);
+    }
+    for (size_t i = 0; i < sizeof bad_digests / sizeof bad_digests[0]; i++) {
+        case_hash(&c, g, SHA3_384, 3, bad_digests[i]);
+        emit(&c);
+    }
+}
+
+static void emit_record(struct source *g, uint32_t body, uint32_t kind, size_t n)
+{
+    struct test_case c;
+    case_record(&c, g, body, kind, n);
+    emit(&c);
+}
+
+/* The first n bytes of a record's head. */
+static void emit_head(struct source *g, size_t n)
+{
+    struct test_case c;
+    case_record(&c, g, 32, 0x105, 0);
+    c.in[0].n = n;
+    emit(&c);
+}
+
+static void committed_records(struct source *g)
+{
+    static const uint32_t unknown[] = {0x100, 0x107, 0x1ff, 0x005, 0x205, 0x505, 0x501, 0x307, 0xff05, 0};
+    for (uint32_t level = 1; level <= 3; level += 2) {
+        for (uint32_t thing = 1; thing <= 6; thing++) {
+            uint32_t body = (uint32_t)thing_bytes(level_of(level), thing), kind = 256 * level + thing;
+            emit_record(g, body, kind, body);
+            emit_record(g, body, kind, 1); /* cut */
+            emit_record(g, 31, kind, 31);  /* another length */
+        }
+    }
+    for (size_t n = 0; n <= 6; n++)
+        emit_head(g, n);
+    emit_record(g, 32, 0x105, 31);         /* cut by one byte */
+    emit_record(g, 32, 0x105, 40);         /* further bytes */
+    emit_record(g, 33, 0x105, 33);         /* one more */
+    emit_record(g, 0, 0x105, 0);           /* nothing */
+    emit_record(g, 1540, 0x102, 1540);     /* rounded down */
+    emit_record(g, 0x10020, 0x105, 40);    /* all four bytes of the length count */
+    emit_record(g, 0x20000000, 0x105, 40); /* little-endian */
+    emit_record(g, UINT32_MAX, 0x105, 40);
+    for (size_t i = 0; i < sizeof unknown / sizeof unknown[0]; i++)
+        emit_record(g, 32, unknown[i], 32);
+    emit_record(g, 33, 0x107, 32); /* unknown and cut */
+    emit_record(g, 33, 0x105, 32); /* another length and cut */
+}
+
+static void emit_product(const struct level *v, const struct poly *a, const struct poly *b)
+{
+    struct test_case c;
+    case_product(&c, v, a, b);
+    emit(&c);
+}
+
+static void emit_inverse(const struct level *v, const struct poly *a)
+{
+    struct test_case c;
+    case_inverse(&c, v, a);
+    emit(&c);
+}
+
+static void committed_ring(struct source *g, const struct level *v)
+{
+    struct poly a = random_poly(g, v), b = random_poly(g, v), sparse = random_poly_of_weight(g, v, v->d);
+    struct poly ones = all_ones(v), top = power_of_X(v->r - 1), zero = poly_zero();
+    struct poly odd = random_poly_of_weight(g, v, v->r / 2 | 1), even = random_poly_of_weight(g, v, v->d + 1);
+    emit_product(v, &a, &b);
+    emit_inverse(v, &odd);
+    emit_inverse(v, &even);
+    emit_inverse(v, &ones);
+    if (!in_full(v))
+        return;
+    emit_product(v, &top, &a);
+    emit_product(v, &ones, &sparse);
+    emit_inverse(v, &sparse);
+    emit_inverse(v, &top);
+    emit_inverse(v, &zero);
+}
+
+static void committed_errors(struct source *g, const struct level *v)
+{
+    struct test_case c;
+    uint8_t m[SHORT_BYTES];
+    for (uint32_t replaced = in_full(v) ? 0 : 2; replaced <= 3; replaced++) {
+        message_replacing(g, v, replaced, m);
+        case_error_of(&c, v, m);
+        emit(&c);
+    }
+}
+
+/* Found by tells --search: together they tell every wrong reading of the decoder, at Level 1 at least twice. */
+static const struct {
+    uint32_t level;
+    enum error_kind kind;
+    uint32_t weight, number;
+} telling[] = {
+    {1, PLAIN, 134, 0},     {1, STRAY_BIT, 134, 0},  {1, PLAIN, 156, 6},         {1, PLAIN, 160, 4},
+    {1, PLAIN, 160, 15},    {1, PLAIN, 162, 20},     {1, CLOSE_KEY, 20, 1},      {1, CLOSE_KEY, 26, 145},
+    {1, OWN_PATTERN, 35, 22}, {1, OWN_PATTERN, 36, 40}, {3, STRAY_BIT, 199, 0},  {3, PLAIN, 222, 2},
+    {3, PLAIN, 222, 3},     {3, CLOSE_KEY, 30, 15},  {3, OWN_PATTERN, 52, 18},   {3, OWN_PATTERN, 52, 22},
+};
+
+static void committed_decoding(struct source *g, const struct level *v)
+{
+    struct test_case c;
+    for (size_t i = 0; i < sizeof telling / sizeof telling[0]; i++) {
+        if (telling[i].level == v->number) {
+            case_decode_numbered(&c, v, telling[i].kind, telling[i].weight, telling[i].number);
+            emit(&c);
+        }
+    }
+    struct key key = random_key(g, v);
+    struct poly zero = poly_zero(), ones = all_ones(v);
+    case_decode(&c, v, &key, &zero);
+    emit(&c);
+    case_decode(&c, v, &key, &ones); /* T is above d: nothing flips */
+    emit(&c);
+}
+
+static void committed_exchange(struct source *g, const struct level *v)
+{
+    struct test_case c;
+    struct poly zero = poly_zero(), ones = all_ones(v), h = random_public_key(g, v);
+    uint8_t m[SHORT_BYTES];
+    for (int n = 0; n < (in_full(v) ? 3 : 1); n++) {
+        ordinary_case(&c, g, MAKE_KEY, v);
+        emit(&c);
+    }
+    message_replacing(g, v, 1, m);
+    case_wrap(&c, v, &h, m);
+    emit(&c);
+    case_wrap(&c, v, &zero, m);
+    emit(&c);
+    case_wrap(&c, v, &ones, m);
+    if (in_full(v))
+        emit(&c);
+    for (int how = HONEST; how < OPENINGS; how++) {
+        opening_case(&c, g, v, (enum opening)how, how == HONEST);
+        if (in_full(v) || how <= C0_BIT)
+            emit(&c);
+    }
+}
+
+/* Each buffer of each entry gets two of the wrong lengths, taking turns; at Level 3 of two entries, one. */
+static void committed_lengths(struct source *g, const struct level *v)
+{
+    struct test_case c;
+    unsigned turn = 0;
+    for (uint32_t entry = PRODUCT; entry <= OPEN; entry++) {
+        if (!in_full(v) && entry != MAKE_KEY && entry != OPEN)
+            continue;
+        ordinary_case(&c, g, entry, v);
+        for (unsigned buffer = 0; buffer < case_buffers(&c); buffer++)
+            for (unsigned n = 0; n < (in_full(v) ? 2 : 1); n++) {
+                ordinary_case(&c, g, entry, v);
+                damage_length(&c, g, buffer, (enum bad_length)(turn++ % BAD_LENGTHS));
+                emit(&c);
+            }
+    }
+}
+
+static void emit_pad(struct source *g, const struct level *v, uint32_t entry, unsigned input, uint32_t bits)
+{
+    struct test_case c;
+    ordinary_case(&c, g, entry, v);
+    damage_pad(&c, input, bits);
+    emit(&c);
+}
+
+static void committed_pads(struct source *g, const struct level *v)
+{
+    struct test_case c;
+    emit_pad(g, v, OPEN, 1, 1);
+    emit_pad(g, v, OPEN, 1, 16);
+    emit_pad(g, v, INVERSE, 0, 16);
+    if (!in_full(v))
+        return;
+    for (uint32_t bit = 0; bit < 5; bit++)
+        emit_pad(g, v, PRODUCT, bit % 2, 1u << bit);
+    for (uint32_t bit = 1; bit < 4; bit++)
+        emit_pad(g, v, OPEN, 1, 1u << bit);
+    emit_pad(g, v, DECODE, 1, 8);
+    emit_pad(g, v, WRAP, 0, 31);
+    ordinary_case(&c, g, PRODUCT, v);
+    c.in[0].bytes[polynomial_bytes(v) - 1] = 7; /* no pad bit */
+    emit(&c);
+}
+
+static void emit_position(struct test_case c, int half, uint32_t index, uint32_t position)
+{
+    set_position(&c, half, index, position);
+    emit(&c);
+}
+
+static void committed_positions(struct source *g, const struct level *v)
+{
+    struct test_case open, decode;
+    ordinary_case(&open, g, OPEN, v);
+    uint32_t last = v->d - 1;
+    emit_position(open, 1, last, v->r - 1); /* good */
+    emit_position(open, 1, last, v->r);
+    emit_position(open, 0, last, v->r);
+    emit_position(open, 0, 1, get_position(&open, 0, 0)); /* equal */
+    emit_position(open, 1, last, get_position(&open, 1, last - 1)); /* equal */
+    if (!in_full(v))
+        return;
+    emit_position(open, 0, 0, get_position(&open, 0, 1) + 1); /* falling */
+    emit_position(open, 1, last, get_position(&open, 1, last - 1) - 1); /* falling */
+    emit_position(open, 0, last, 65535);
+    memcpy(open.in[0].bytes + 2 * v->d, open.in[0].bytes, 2 * v->d); /* h1 = h0: good */
+    emit(&open);
+    ordinary_case(&decode, g, DECODE, v);
+    emit_position(decode, 0, last, v->r - 1); /* good */
+    emit_position(decode, 1, last, v->r);
+}
+
+/* A bad level, a wrong length, a pad bit and a bad position, each where its mark is set. */
+static void emit_together(struct source *g, const struct level *v, const char *marks)
+{
+    struct test_case c;
+    ordinary_case(&c, g, OPEN, v);
+    if (strchr(marks, '4'))
+        set_position(&c, 0, 0, v->r);
+    if (strchr(marks, '3'))
+        damage_pad(&c, 1, 1);
+    if (strchr(marks, '2'))
+        damage_length(&c, g, 2, ONE_MORE);
+    if (strchr(marks, '1'))
+        c.level = 2;
+    emit(&c);
+}
+
+static void committed_together(struct source *g, const struct level *v)
+{
+    static const char *const marks[] = {"12", "13", "14", "23", "24", "34", "234", "1234"};
+    for (size_t i = 0; i < sizeof marks / sizeof marks[0]; i++)
+        if (in_full(v) || marks[i][0] == '3' || marks[i][2] != '\0')
+            emit_together(g, v, marks[i]);
+    struct poly ones = all_ones(v); /* no inverse either */
+    struct test_case c;
+    case_inverse(&c, v, &ones);
+    damage_pad(&c, 0, 1);
+    emit(&c);
+}
+
+/* Good but for the level. */
+static void committed_levels(struct source *g)
+{
+    static const uint32_t bad[] = {0, 2, 5, 257, 259, 0x1000001, UINT32_MAX};
+    struct test_case c;
+    for (size_t i = 0; i < sizeof bad / sizeof bad[0]; i++) {
+        ordinary_case(&c, g, (uint32_t)(PRODUCT + i), level_of(bad[i] == 259 ? 3 : 1));
+        c.level = bad[i];
+        emit(&c);
+    }
+}
+
+void committed(void)
+{
+    struct source g = source_of("committed");
+    committed_hashes(&g);
+    committed_records(&g);
+    committed_levels(&g);
+    for (uint32_t level = 1; level <= 3; level += 2) {
+        const struct level *v = level_of(level);
+        committed_ring(&g, v);
+        committed_errors(&g, v);
+        committed_decoding(&g, v);
+        committed_exchange(&g, v);
+        committed_lengths(&g, v);
+        committed_pads(&g, v);
+        committed_positions(&g, v);
+        committed_together(&g, v);
+    }
+}

@@ -1,0 +1,78 @@
+/* What cases are made of: a random source that a label determines, values worth trying, and damage. */
+#ifndef REF_GENERATOR_H
+#define REF_GENERATOR_H
+
+#include <stdbool.h>
+#include <stddef.h>
+#include <stdint.h>
+
+#include "casefile.h"
+#include "keccak.h"
+#include "ring.h"
+#include "scheme.h"
+
+/* SHAKE256 of the label. */
+struct source {
+    struct sponge stream;
+};
+
+struct source source_of(const char *label);
+void source_bytes(struct source *g, uint8_t *out, size_t n);
+uint32_t source_below(struct source *g, uint32_t end);
+
+struct poly random_poly(struct source *g, const struct level *v);
+struct poly random_poly_of_weight(struct source *g, const struct level *v, uint32_t weight);
+struct poly power_of_X(uint32_t i);
+struct poly all_ones(const struct level *v);
+struct poly random_public_key(struct source *g, const struct level *v);
+struct key random_key(struct source *g, const struct level *v);
+/* All positions of a half within 4d places. */
+struct key close_key(struct source *g, const struct level *v);
+/* A message for which H's sampler replaces exactly so many positions. */
+void message_replacing(struct source *g, const struct level *v, uint32_t replaced, uint8_t *m);
+void random_error(struct source *g, const struct level *v, uint32_t weight, struct poly e[2]);
+
+/* A ciphertext with c0·h0 = syndrome and c1 = m xor L(e). */
+void ciphertext_of(const struct level *v, const struct key *key, const struct poly *syndrome,
+                   const struct poly e[2], const uint8_t *m, uint8_t *c);
+
+/* Cases whose buffers have the right lengths. */
+void case_hash(struct test_case *c, struct source *g, uint32_t entry, size_t message, size_t digest);
+void case_product(struct test_case *c, const struct level *v, const struct poly *a, const struct poly *b);
+void case_inverse(struct test_case *c, const struct level *v, const struct poly *a);
+void case_error_of(struct test_case *c, const struct level *v, const uint8_t *m);
+void case_decode(struct test_case *c, const struct level *v, const struct key *key, const struct poly *syndrome);
+void case_make_key(struct test_case *c, const struct level *v, const uint8_t *seed);
+void case_wrap(struct test_case *c, const struct level *v, const struct poly *h, const uint8_t *m);
+void case_open(struct test_case *c, const struct level *v, const struct key *key, const uint8_t *ciphertext);
+/* A record whose head says `body` and `kind`, followed by n random bytes. */
+void case_record(struct test_case *c, struct source *g, uint32_t body, uint32_t kind, size_t n);
+size_t thing_bytes(const struct level *v, uint32_t thing);
+
+/* Decoder cases: a random error; with one stray bit in the syndrome; under a key whose positions stand close together;
+ * at so many of each half's own positions. Numbered, so that a search can find those that tell a wrong reading. */
+enum error_kind { PLAIN, STRAY_BIT, CLOSE_KEY, OWN_PATTERN, ERROR_KINDS };
+void case_decode_numbered(struct test_case *c, const struct level *v, enum error_kind kind, uint32_t weight,
+                          uint32_t number);
+
+/* A ciphertext with its key: an honest one, or one whose error, message or bytes are not what wrapping gives. */
+enum opening { HONEST, STRAY, OTHER_ERROR, LIGHT_ERROR, C0_BIT, C1_BIT, NO_SYNDROME, ANY_BYTES, OPENINGS };
+void opening_case(struct test_case *c, struct source *g, const struct level *v, enum opening how,
+                  uint32_t replaced);
+
+/* An ordinary good case of an entry that takes a level. */
+void ordinary_case(struct test_case *c, struct source *g, uint32_t entry, const struct level *v);
+
+/* Damage that is refused with 2: a buffer's wrong length; inputs are numbered first, then outputs. */
+enum bad_length { EMPTY, ONE_LESS, ONE_MORE, OTHER_LEVEL, BAD_LENGTHS };
+unsigned case_buffers(const struct test_case *c);
+void damage_length(struct test_case *c, struct source *g, unsigned buffer, enum bad_length how);
+
+/* Damage that is refused with 3: pad bits of an input, as a number; with 4: a private key's position. */
+bool has_pad(const struct test_case *c, unsigned input);
+void damage_pad(struct test_case *c, unsigned input, uint32_t bits);
+bool has_key(const struct test_case *c);
+void set_position(struct test_case *c, int half, uint32_t index, uint32_t position);
+uint32_t get_position(const struct test_case *c, int half, uint32_t index);
+
+#endif

@@ -1,0 +1,242 @@
+/* The level table, the byte layouts, the sampler and the hash functions H, L and K. */
+#include "scheme.h"
+
+#include <string.h>
+
+#include "keccak.h"
+#include "wrong.h"
+
+static const struct level levels[] = {
+    {1, 12323, 71, 134, 69722, 135300000, 10000000, 36},
+    {3, 24659, 103, 199, 52650, 152588000, 10000000, 52},
+};
+
+const struct level *level_of(uint32_t number)
+{
+    if (wrong(W_LEVEL_BYTE))
+        number &= 0xff;
+    for (size_t i = 0; i < sizeof levels / sizeof levels[0]; i++)
+        if (levels[i].number == number)
+            return &levels[i];
+    return NULL;
+}
+
+size_t polynomial_bytes(const struct level *v)
+{
+    return (v->r + 7) / 8;
+}
+
+size_t ciphertext_bytes(const struct level *v)
+{
+    return polynomial_bytes(v) + SHORT_BYTES;
+}
+
+size_t private_key_bytes(const struct level *v)
+{
+    return 4 * v->d + SHORT_BYTES;
+}
+
+uint32_t little_endian(const uint8_t *bytes, size_t n)
+{
+    uint32_t number = 0;
+    for (size_t i = 0; i < n; i++)
+        number |= (uint32_t)bytes[i] << 8 * i;
+    return number;
+}
+
+/* Byte i of a position. */
+static size_t position_byte(const struct level *v, int half, uint32_t index, uint32_t i)
+{
+    return 2 * (half * v->d + index) + (wrong(W_BIG_ENDIAN_KEY) ? 1 - i : i);
+}
+
+struct key key_of_bytes(const struct level *v, const uint8_t *bytes)
+{
+    struct key key;
+    for (int half = 0; half < 2; half++)
+        for (uint32_t index = 0; index < v->d; index++)
+            key.h[half][index] = bytes[position_byte(v, half, index, 0)]
+                                 + 256u * bytes[position_byte(v, half, index, 1)];
+    memcpy(key.sigma, bytes + 4 * v->d, SHORT_BYTES);
+    return key;
+}
+
+void key_to_bytes(const struct level *v, const struct key *key, uint8_t *bytes)
+{
+    for (int half = 0; half < 2; half++)
+        for (uint32_t index = 0; index < v->d; index++)
+            for (uint32_t i = 0; i < 2; i++)
+                bytes[position_byte(v, half, index, i)] = (uint8_t)(key->h[half][index] >> 8 * i);
+    memcpy(bytes + 4 * v->d, key->sigma, SHORT_BYTES);
+}
+
+static bool below(uint32_t p, uint32_t q)
+{
+    return wrong(W_NOT_STRICT) ? p <= q : p < q;
+}
+
+/* Positions below r, strictly rising inside each half. */
+bool key_is_good(const struct level *v, const struct key *key)
+{
+    uint32_t end = wrong(W_POSITION_R) ? v->r + 1 : v->r;
+    for (int half = 0; half < (wrong(W_FIRST_HALF) ? 1 : 2); half++)
+        for (uint32_t i = 0; i < v->d; i++)
+            if (key->h[half][i] >= end || (i > 0 && !below(key->h[half][i - 1], key->h[half][i])))
+                return false;
+    return !wrong(W_ACROSS_HALVES) || key->h[0][v->d - 1] < key->h[1][0];
+}
+
+struct poly key_half(const struct level *v, const struct key *key, int half)
+{
+    return poly_of_positions(key->h[half], v->d);
+}
+
+struct poly syndrome_of(const struct level *v, const struct key *key, const struct poly e[2])
+{
+    struct poly syndrome = poly_zero();
+    for (int half = 0; half < 2; half++) {
+        struct poly h = key_half(v, key, half);
+        struct poly part = poly_product(v->r, &h, &e[half]);
+        syndrome = poly_sum(&syndrome, &part);
+    }
+    return syndrome;
+}
+
+static bool listed(const uint32_t list[], uint32_t n, uint32_t pos)
+{
+    for (uint32_t i = 0; i < n; i++)
+        if (list[i] == pos)
+            return true;
+    return false;
+}
+
+/* For i from wt - 1 down to 0: pos = i + floor((len - i)·s_i / 2^32), or i where pos is already listed. */
+uint32_t sample(uint32_t len, uint32_t wt, const uint32_t s[], uint32_t list[])
+{
+    uint32_t replaced = 0;
+    for (uint32_t n = 0; n < wt; n++) {
+        uint32_t i = wrong(W_UPWARDS) ? n : wt - 1 - n;
+        uint64_t word = s[wrong(W_S0_FIRST) ? n : i];
+        uint32_t pos = i + (uint32_t)((len - i) * word >> 32);
+        if (wrong(W_MODULO))
+            pos = i + (uint32_t)(word % (len - i));
+        if (listed(list, n, pos) && !wrong(W_NO_REPLACE)) {
+            pos = i;
+            replaced++;
+        }
+        list[n] = pos;
+    }
+    return replaced;
+}
+
+/* The next wt words of a stream, sampled. */
+static uint32_t sample_stream(struct sponge *stream, uint32_t len, uint32_t wt, uint32_t list[])
+{
+    uint32_t s[T_MAX];
+    for (uint32_t i = 0; i < wt; i++) {
+        uint8_t b[4];
+        sponge_squeeze(stream, b, 4);
+        s[i] = little_endian(b, 4);
+        if (wrong(W_BIG_ENDIAN_WORDS))
+            s[i] = s[i] >> 24 | (s[i] >> 8 & 0xff00) | (s[i] << 8 & 0xff0000) | s[i] << 24;
+    }
+    return sample(len, wt, s, list);
+}
+
+static void start_stream(struct sponge *stream, const uint8_t *seed, size_t n)
+{
+    shake256_start(stream);
+    sponge_absorb(stream, seed, n);
+    shake256_finish(stream);
+}
+
+static void sort(uint32_t list[], uint32_t n)
+{
+    for (uint32_t i = 1; i < n; i++)
+        for (uint32_t k = i; k > 0 && list[k - 1] > list[k]; k--) {
+            uint32_t higher = list[k - 1];
+            list[k - 1] = list[k];
+            list[k] = higher;
+        }
+}
+
+struct key key_of_seed(const struct level *v, const uint8_t *seed)
+{
+    struct key key;
+    struct sponge stream;
+    start_stream(&stream, seed, wrong(W_WHOLE_SEED) ? SEED_BYTES : 32);
+    for (int half = 0; half < 2; half++) {
+        if (wrong(W_H1_SAME_BYTES))
+            start_stream(&stream, seed, 32);
+        sample_stream(&stream, v->r, v->d, key.h[half]);
+        if (!wrong(W_UNSORTED))
+            sort(key.h[half], v->d);
+    }
+    memcpy(key.sigma, wrong(W_SIGMA_FIRST) ? seed : seed + 32, SHORT_BYTES);
+    return key;
+}
+
+uint32_t hash_H(const struct level *v, const uint8_t *m, struct poly e[2])
+{
+    uint32_t list[T_MAX];
+    struct sponge stream;
+    start_stream(&stream, m, SHORT_BYTES);
+    uint32_t replaced = sample_stream(&stream, 2 * v->r, v->t, list);
+    e[0] = e[1] = poly_zero();
+    for (uint32_t i = 0; i < v->t; i++) {
+        bool first = list[i] < v->r;
+        poly_set(&e[first == wrong(W_E_EXCHANGED)], first ? list[i] : list[i] - v->r);
+    }
+    return replaced;
+}
+
+/* The first 32 bytes of the digest. */
+static void half_digest(struct sponge *s, uint8_t *out)
+{
+    uint8_t digest[SHA3_384_BYTES];
+    sha3_384_finish(s);
+    sponge_squeeze(s, digest, sizeof digest);
+    memcpy(out, wrong(W_LAST_32) ? digest + 16 : digest, SHORT_BYTES);
+}
+
+/* A wrong reading of L: e1 begins at bit r, right behind e0. */
+static void absorb_joined(const struct level *v, const struct poly e[2], struct sponge *s)
+{
+    uint8_t bytes[2 * ((R_MAX + 7) / 8)] = {0};
+    for (uint32_t k = 0; k < 2 * v->r; k++)
+        if (poly_bit(&e[k / v->r], k % v->r))
+            bytes[k / 8] |= (uint8_t)(1u << k % 8);
+    sponge_absorb(s, bytes, (2 * v->r + 7) / 8);
+}
+
+static void absorb_poly(const struct level *v, const struct poly *a, struct sponge *s)
+{
+    uint8_t bytes[(R_MAX + 7) / 8];
+    poly_to_bytes(a, bytes, polynomial_bytes(v));
+    sponge_absorb(s, bytes, polynomial_bytes(v) - wrong(W_L_TRUNCATED));
+}
+
+void hash_L(const struct level *v, const struct poly e[2], uint8_t *out)
+{
+    struct sponge s;
+    sha3_384_start(&s);
+    if (wrong(W_L_JOINED)) {
+        absorb_joined(v, e, &s);
+    } else {
+        absorb_poly(v, &e[wrong(W_L_E1_FIRST)], &s);
+        absorb_poly(v, &e[!wrong(W_L_E1_FIRST)], &s);
+    }
+    half_digest(&s, out);
+}
+
+void hash_K(const struct level *v, const uint8_t *m, const uint8_t *c, uint8_t *out)
+{
+    struct sponge s;
+    sha3_384_start(&s);
+    if (!wrong(W_K_C_FIRST))
+        sponge_absorb(&s, m, SHORT_BYTES);
+    sponge_absorb(&s, c, wrong(W_K_C0_ONLY) ? polynomial_bytes(v) : ciphertext_bytes(v));
+    if (wrong(W_K_C_FIRST))
+        sponge_absorb(&s, m, SHORT_BYTES);
+    half_digest(&s, out);
+}

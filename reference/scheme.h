@@ -1,0 +1,46 @@
+/* The level table, the byte layouts, the sampler and the hash functions H, L and K. */
+#ifndef REF_SCHEME_H
+#define REF_SCHEME_H
+
+#include <stdbool.h>
+#include <stddef.h>
+#include <stdint.h>
+
+#include "ring.h"
+
+enum { D_MAX = 103, T_MAX = 199, SHORT_BYTES = 32, SEED_BYTES = 64 };
+
+struct level {
+    uint32_t number, r, d, t;
+    uint64_t slope, offset, divisor; /* of the threshold */
+    uint32_t least;                  /* threshold */
+};
+
+const struct level *level_of(uint32_t number); /* NULL: no such level */
+size_t polynomial_bytes(const struct level *v);
+size_t ciphertext_bytes(const struct level *v);
+size_t private_key_bytes(const struct level *v);
+
+struct key {
+    uint32_t h[2][D_MAX]; /* positions of h0 and of h1 */
+    uint8_t sigma[SHORT_BYTES];
+};
+
+struct key key_of_bytes(const struct level *v, const uint8_t *bytes);
+void key_to_bytes(const struct level *v, const struct key *key, uint8_t *bytes);
+bool key_is_good(const struct level *v, const struct key *key);
+struct poly key_half(const struct level *v, const struct key *key, int half);
+/* e0·h0 + e1·h1 */
+struct poly syndrome_of(const struct level *v, const struct key *key, const struct poly e[2]);
+struct key key_of_seed(const struct level *v, const uint8_t *seed);
+
+uint32_t little_endian(const uint8_t *bytes, size_t n);
+
+/* Gives the number of steps in which i stood in for a listed position. */
+uint32_t sample(uint32_t len, uint32_t wt, const uint32_t s[], uint32_t list[]);
+
+uint32_t hash_H(const struct level *v, const uint8_t *m, struct poly e[2]); /* gives what sample gives */
+void hash_L(const struct level *v, const struct poly e[2], uint8_t *out);
+void hash_K(const struct level *v, const uint8_t *m, const uint8_t *c, uint8_t *out);
+
+#endif

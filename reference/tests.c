@@ -1,0 +1,287 @@
+/* The tests of the second program: the examples of document 01, published hash vectors, and consistency. */
+#include <stdio.h>
+#include <stdlib.h>
+#include <string.h>
+
+#include "bike.h"
+#include "decoder.h"
+#include "generator.h"
+#include "keccak.h"
+#include "ring.h"
+#include "scheme.h"
+
+static unsigned long checks, failures;
+
+static void check(bool holds, const char *what)
+{
+    checks++;
+    if (!holds) {
+        failures++;
+        printf("FAILED: %s\n", what);
+    }
+}
+
+/* A polynomial from its coefficients, bit i of `bits` for X^i. */
+static struct poly small(uint64_t bits)
+{
+    struct poly a = poly_zero();
+    a.w[0] = bits;
+    return a;
+}
+
+static void check_product(uint32_t r, uint64_t a, uint64_t b, uint64_t expected, const char *what)
+{
+    struct poly pa = small(a), pb = small(b), pe = small(expected);
+    struct poly product = poly_product(r, &pa, &pb);
+    check(poly_equal(&product, &pe), what);
+}
+
+static void check_inverse(uint32_t r, uint64_t a, uint64_t expected, const char *what)
+{
+    struct poly inverse, pa = small(a), pe = small(expected);
+    check(poly_inverse(r, &pa, &inverse) && poly_equal(&inverse, &pe), what);
+}
+
+static void check_no_inverse(uint32_t r, uint64_t a, const char *what)
+{
+    struct poly inverse, pa = small(a);
+    check(!poly_inverse(r, &pa, &inverse), what);
+}
+
+static void check_sample(uint32_t s1, uint32_t s0, uint32_t first, uint32_t second, const char *what)
+{
+    const uint32_t s[] = {s0, s1};
+    uint32_t list[2];
+    sample(5, 2, s, list);
+    check(list[0] == first && list[1] == second, what);
+}
+
+static void check_threshold(uint32_t level, uint32_t S, uint32_t T, const char *what)
+{
+    check(threshold(level_of(level), S) == T, what);
+}
+
+static void proved_examples(void)
+{
+    const uint32_t h0[] = {0, 1, 3};
+    struct poly residual = poly_of_positions(h0, 3);
+    uint8_t count[7];
+    check_product(5, 0x03, 0x07, 0x09, "P1");
+    check_inverse(5, 0x07, 0x16, "P2");
+    check_inverse(5, 0x02, 0x10, "P3");
+    check_no_inverse(5, 0x03, "P4");
+    check_no_inverse(5, 0x1f, "P4, all ones");
+    check_sample(0, 0, 1, 0, "P5");
+    check_sample(UINT32_MAX, UINT32_MAX, 4, 0, "P6");
+    check_sample(1u << 31, 1u << 31, 3, 2, "P7");
+    check_sample(1u << 30, 1u << 31, 2, 0, "P8");
+    check_threshold(1, 3366, 36, "P9");
+    check_threshold(1, 3367, 37, "P9");
+    check_threshold(3, 7168, 52, "P10");
+    check_threshold(3, 7169, 53, "P10");
+    check_threshold(1, 12323, 99, "P11");
+    count_all(7, 3, h0, &residual, count);
+    check(count[0] == 3 && count[1] == 1 && count[2] == 1, "P12");
+}
+
+/* Whether a digest has these hex digits. */
+static bool is_hex(const uint8_t *digest, size_t n, const char *hex)
+{
+    char pair[3];
+    if (strlen(hex) != 2 * n)
+        return false;
+    for (size_t i = 0; i < n; i++) {
+        snprintf(pair, sizeof pair, "%02x", digest[i]);
+        if (memcmp(pair, hex + 2 * i, 2) != 0)
+            return false;
+    }
+    return true;
+}
+
+static void known_digests(void)
+{
+    uint8_t out[64];
+    ref_shake256(NULL, 0, out, 64);
+    check(is_hex(out, 64, "46b9dd2b0ba88d13233b3feb743eeb243fcd52ea62b81b82b50c27646ed5762f"
+                          "d75dc4ddd8c0f200cb05019d67b592f6fc821c49479ab48640292eacb3b7c4be"),
+          "SHAKE256 of the empty message");
+    ref_sha3_384(NULL, 0, out, 48);
+    check(is_hex(out, 48, "0c63a75b845e4f7d01107d852e4c2485c51a50aaaa94fc61995e71bbee983a2a"
+                          "c3713831264adb47fb6bd1e058d5f004"),
+          "SHA3-384 of the empty message");
+    ref_sha3_384((const uint8_t *)"abc", 3, out, 48);
+    check(is_hex(out, 48, "ec01498288516fc926459f58e2c6ad8df9b473cb0fc08c2596da7cf0e49be4b2"
+                          "98d88cea927ac7f539f1edf228376d25"),
+          "SHA3-384 of abc");
+}
+
+static FILE *open_file(const char *path)
+{
+    FILE *file = fopen(path, "rb");
+    if (file == NULL) {
+        fprintf(stderr, "tests: cannot read %s\n", path);
+        exit(2);
+    }
+    return file;
+}
+
+static uint8_t *room(size_t n)
+{
+    uint8_t *bytes = malloc(n + 1);
+    if (bytes == NULL) {
+        fputs("tests: out of memory\n", stderr);
+        exit(2);
+    }
+    return bytes;
+}
+
+/* One vector: function (1 SHAKE256, 2 SHA3-384), message length, digest length, message; its digest is a hex line. */
+static bool next_vector(FILE *vectors, FILE *digests)
+{
+    uint8_t head[9];
+    size_t got = fread(head, 1, sizeof head, vectors);
+    if (got == 0)
+        return false;
+    size_t mn = little_endian(head + 1, 4), dn = little_endian(head + 5, 4);
+    uint8_t *message = room(mn), *digest = room(dn);
+    char *line = (char *)room(2 * dn + 2);
+    bool whole = got == sizeof head && fread(message, 1, mn, vectors) == mn
+                 && fgets(line, (int)(2 * dn + 2), digests) != NULL;
+    line[whole ? strcspn(line, "\n") : 0] = '\0';
+    uint32_t answer = (head[0] == 1 ? ref_shake256 : ref_sha3_384)(message, mn, digest, dn);
+    check(whole && answer == 0 && is_hex(digest, dn, line), "published vector");
+    free(message);
+    free(digest);
+    free(line);
+    return whole;
+}
+
+static void published_vectors(const char *vectors_path, const char *digests_path)
+{
+    unsigned long before = checks;
+    FILE *vectors = open_file(vectors_path), *digests = open_file(digests_path);
+    while (next_vector(vectors, digests))
+        ;
+    check(getc(digests) == EOF, "as many digests as vectors");
+    printf("published vectors: %lu\n", checks - before - 1);
+    fclose(vectors);
+    fclose(digests);
+}
+
+static bool all_zero(const uint8_t *bytes, size_t n)
+{
+    for (size_t i = 0; i < n; i++)
+        if (bytes[i] != 0)
+            return false;
+    return true;
+}
+
+static void check_answer(const struct test_case *c, uint32_t answer, bool zero, const char *what)
+{
+    static struct result result;
+    bool zeros = true;
+    case_run(c, &result);
+    for (unsigned i = 0; i < case_outs(c->entry); i++)
+        zeros = zeros && all_zero(result.out[i].bytes, c->out[i]);
+    check(result.answer == answer && zeros == zero, what);
+}
+
+static void run_examples(void)
+{
+    static struct test_case c;
+    const struct level *v = level_of(1);
+    struct source g = source_of("run examples");
+    struct key key = random_key(&g, v);
+    struct poly zero = poly_zero(), a = small(1);
+    case_product(&c, v, &a, &a);
+    c.in[0].bytes[1540] = 7;
+    check_answer(&c, 0, false, "last byte 7 of a polynomial accepted");
+    c.in[0].bytes[1540] = 8;
+    check_answer(&c, 3, true, "last byte 8 of a polynomial refused with 3");
+    case_decode(&c, v, &key, &zero);
+    check_answer(&c, 0, true, "syndrome 0 decodes to error 0");
+    set_position(&c, 1, 70, 12322);
+    check_answer(&c, 0, true, "position 12322 accepted");
+    set_position(&c, 1, 70, 12323);
+    check_answer(&c, 4, true, "position 12323 refused with 4");
+    damage_pad(&c, 1, 1);
+    check_answer(&c, 3, true, "bad pad and bad key at once give 3");
+    case_decode(&c, v, &key, &zero);
+    set_position(&c, 0, 1, get_position(&c, 0, 0));
+    check_answer(&c, 4, true, "equal neighbours refused with 4");
+}
+
+/* Bytes 20 00 00 00 05 01, 32 zero bytes, then 20 00. */
+static void record_example(void)
+{
+    const uint8_t input[40] = {0x20, 0, 0, 0, 5, 1, [38] = 0x20};
+    struct ref_record record;
+    check(ref_read_record(input, 40, &record) == 0 && record.level == 1 && record.thing == 5 && record.body == 32,
+          "listed record 1");
+    check(ref_read_record(input + 38, 2, &record) == 7 && record.level == 0 && record.thing == 0 && record.body == 0,
+          "listed record 2");
+}
+
+static void ring_laws(const struct level *v)
+{
+    struct source g = source_of("ring laws");
+    struct poly inverse, one = small(1), ones = all_ones(v);
+    struct poly a = random_poly_of_weight(&g, v, v->r / 2 | 1), b = random_poly(&g, v), c = random_poly(&g, v);
+    struct poly ab = poly_product(v->r, &a, &b), ba = poly_product(v->r, &b, &a);
+    check(poly_equal(&ab, &ba), "ab = ba");
+    struct poly bc = poly_product(v->r, &b, &c);
+    struct poly left = poly_product(v->r, &ab, &c), right = poly_product(v->r, &a, &bc);
+    check(poly_equal(&left, &right), "(ab)c = a(bc)");
+    check(poly_inverse(v->r, &a, &inverse), "odd weight has an inverse");
+    struct poly product = poly_product(v->r, &a, &inverse);
+    check(poly_equal(&product, &one), "a / a = 1");
+    poly_flip(&a, 0);
+    check(!poly_inverse(v->r, &a, &inverse), "even weight has no inverse");
+    check(!poly_inverse(v->r, &ones, &inverse), "all ones has no inverse");
+}
+
+/* A key is made, a message wrapped and opened; a damaged ciphertext gives another key and the same answer. */
+static void round_trip(const struct level *v, unsigned number)
+{
+    char label[32];
+    uint8_t seed[SEED_BYTES], m[SHORT_BYTES], k[SHORT_BYTES], opened[SHORT_BYTES];
+    uint8_t pub[(R_MAX + 7) / 8], priv[4 * D_MAX + SHORT_BYTES], c[(R_MAX + 7) / 8 + SHORT_BYTES];
+    size_t pubn = polynomial_bytes(v), privn = private_key_bytes(v), cn = ciphertext_bytes(v);
+    snprintf(label, sizeof label, "round trip %u", number);
+    struct source g = source_of(label);
+    source_bytes(&g, seed, sizeof seed);
+    source_bytes(&g, m, sizeof m);
+    check(ref_make_key(v->number, seed, sizeof seed, pub, pubn, priv, privn) == 0, "key made");
+    check(ref_wrap(v->number, pub, pubn, m, sizeof m, c, cn, k, sizeof k) == 0, "message wrapped");
+    check(ref_open(v->number, priv, privn, c, cn, opened, sizeof opened) == 0, "ciphertext opened");
+    check(memcmp(k, opened, sizeof k) == 0, "opening gives wrapping's key");
+    c[source_below(&g, (uint32_t)cn - 1 - SHORT_BYTES)] ^= 1;
+    check(ref_open(v->number, priv, privn, c, cn, opened, sizeof opened) == 0, "damaged ciphertext opened");
+    check(memcmp(k, opened, sizeof k) != 0, "a damaged ciphertext gives another key");
+}
+
+int main(int argc, char **argv)
+{
+    if (argc == 2 && strcmp(argv[1], "--help") == 0) {
+        puts("usage: tests [VECTORS DIGESTS]\n"
+             "Runs the examples and the consistency tests, and the published hash vectors of the two files if given.");
+        return 0;
+    }
+    if (argc != 1 && argc != 3) {
+        fputs("tests: two files or none are wanted; see --help\n", stderr);
+        return 2;
+    }
+    proved_examples();
+    known_digests();
+    run_examples();
+    record_example();
+    for (uint32_t level = 1; level <= 3; level += 2) {
+        ring_laws(level_of(level));
+        for (unsigned number = 0; number < 5; number++)
+            round_trip(level_of(level), number);
+    }
+    if (argc == 3)
+        published_vectors(argv[1], argv[2]);
+    printf("%lu checks, %lu failed\n", checks, failures);
+    return failures != 0;
+}

@@ -1,0 +1,101 @@
+/* Wrong readings of the rules, each one plausible. ref_wrong is 0 in every ordinary run; a test sets it to a number of
+ * this list to switch that one reading on, and so learns whether a case file tells it from the right one. */
+#ifndef REF_WRONG_H
+#define REF_WRONG_H
+
+#include <stdbool.h>
+
+#define WRONG_READINGS(X) \
+    X(SHA3_NO_SUFFIX, "SHA3-384 without the suffix 01") \
+    X(RAW_SHAKE, "SHAKE256 with the suffix 11 instead of 1111") \
+    X(PAD_OVERWRITES, "hash: the last pad bit overwrites the suffix where both share a byte") \
+    X(ONE_BLOCK, "SHAKE256: output beyond the rate repeats the first block") \
+    X(EMPTY_OUTPUT, "SHAKE256 refuses an output of length 0 with 2") \
+    X(SHORT_DIGEST, "SHA3-384 takes an output of fewer than 48 bytes") \
+    X(S0_FIRST, "sampler: the first step takes s_0") \
+    X(UPWARDS, "sampler: i counted upwards") \
+    X(NO_REPLACE, "sampler: a listed position is appended again") \
+    X(MODULO, "sampler: the word modulo len - i") \
+    X(BIG_ENDIAN_WORDS, "sampler: words big-endian") \
+    X(E_EXCHANGED, "H: e0 and e1 exchanged") \
+    X(H1_SAME_BYTES, "key making: h1 from the first 4d bytes again") \
+    X(WHOLE_SEED, "key making: SHAKE256 of all 64 bytes of the seed") \
+    X(SIGMA_FIRST, "key making: sigma is the seed's first half") \
+    X(UNSORTED, "key making: positions in the sampler's order") \
+    X(H0_OVER_H1, "key making: h = h0 / h1") \
+    X(BIG_ENDIAN_KEY, "private key: positions big-endian") \
+    X(ALWAYS_INVERSE, "inverse: never refused with 5") \
+    X(ALL_ONES_INVERSE, "inverse: refused for even weight only") \
+    X(L_TRUNCATED, "L without each polynomial's last byte") \
+    X(L_JOINED, "L over 2r bits in a row, no pad between") \
+    X(L_E1_FIRST, "L over e1, then e0") \
+    X(LAST_32, "L and K: the digest's last 32 bytes") \
+    X(K_C_FIRST, "K over the ciphertext, then the message") \
+    X(K_C0_ONLY, "K over the message and c0 only") \
+    X(MINUS_P, "counter at j - p") \
+    X(MARGIN_4, "gray margin 4") \
+    X(GRAY_ABOVE, "gray above T - 3 only") \
+    X(BLACK_ABOVE, "flips above T only") \
+    X(BLACK_IS_GRAY, "black bits are marked gray too") \
+    X(MASKED_BOUND, "masked bound (d + 1) / 2") \
+    X(MASKED_T, "masked bound T") \
+    X(MASKED_SETS, "a masked flip sets the bit") \
+    X(NO_MASKED, "no masked steps") \
+    X(NO_GRAY_STEP, "no gray step") \
+    X(MASKED_ALWAYS, "masked steps in every round") \
+    X(GRAY_FIRST, "gray step before the black step") \
+    X(BLACK_OLD, "black step on the residual before the round's flips") \
+    X(GRAY_OLD, "gray step on the residual before the black step") \
+    X(HALF_BY_HALF, "e1's counters after e0's flips") \
+    X(LIVE_RESIDUAL, "residual updated after each flip inside a round") \
+    X(THRESHOLD_UP, "threshold rounded up") \
+    X(NO_LEAST, "threshold without its lower bound") \
+    X(FIRST_S, "S is the syndrome's weight in every round") \
+    X(FOUR_ROUNDS, "four rounds") \
+    X(SIX_ROUNDS, "six rounds") \
+    X(NO_FINAL_CHECK, "final residual not looked at") \
+    X(WEIGHT_T, "decoding fails unless the error's weight is t") \
+    X(OPEN_KEEPS_E, "opening: a failed decoding's error is kept") \
+    X(OPEN_WEIGHT, "opening checks only the weight") \
+    X(OPEN_UNCHECKED, "opening: no comparison with H(m')") \
+    X(OPEN_SIGMA, "opening always takes sigma") \
+    X(OPEN_TELLS, "opening answers 6 where it falls back to sigma") \
+    X(LEVEL_BYTE, "only the level's lowest byte is looked at") \
+    X(AT_LEAST, "buffers longer than the level's are taken") \
+    X(THREE_BEFORE_TWO, "3 before 2") \
+    X(FOUR_BEFORE_THREE, "4 before 3") \
+    X(PAD_BIT_3, "only the first pad bit is looked at") \
+    X(NO_C0_PAD, "a ciphertext's pad is not looked at") \
+    X(C1_PAD, "a ciphertext's pad is looked for in its last byte") \
+    X(NOT_STRICT, "equal neighbours in a private key are taken") \
+    X(ACROSS_HALVES, "positions must rise from h0 to h1 too") \
+    X(FIRST_HALF, "only h0's positions are looked at") \
+    X(POSITION_R, "position r is taken") \
+    X(ZERO_KEY_REFUSED, "a zero public key is refused") \
+    X(LEAVES_BYTES, "a refusal leaves the outputs as they are") \
+    X(LEVEL_LEAVES, "refusal 1 leaves the outputs as they are") \
+    X(LENGTH_LEAVES, "an output of a wrong length is left as it is") \
+    X(FAILURE_LEAVES, "refusal 6 gives the error found so far") \
+    X(BIG_ENDIAN_KIND, "record: kind big-endian") \
+    X(BIG_ENDIAN_BODY, "record: length big-endian") \
+    X(LENGTH_16, "record: only the length's low two bytes count") \
+    X(EIGHT_BEFORE_SEVEN, "record: 8 before 7") \
+    X(NINE_BEFORE_SEVEN, "record: 9 before 7") \
+    X(EXACT_RECORD, "record: further bytes are refused with 7") \
+    X(THING_7, "record: thing 7 is known, with any length") \
+    X(ANY_LEVEL, "record: any level for things of 32 bytes") \
+    X(SLIDE_SIZES, "record: polynomial lengths rounded down")
+
+#define WRONG_NAME(name, text) W_##name,
+enum { W_NONE, WRONG_READINGS(WRONG_NAME) W_COUNT };
+#undef WRONG_NAME
+
+extern int ref_wrong;
+extern const char *const wrong_text[W_COUNT];
+
+static inline bool wrong(int reading)
+{
+    return ref_wrong == reading;
+}
+
+#endif
