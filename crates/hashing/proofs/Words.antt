@@ -1,6 +1,6 @@
 -- The bits of numbers: what each operation on words does to the bit at a place. Assumes nothing.
 use mathlib.Core.Path.{_≡_, refl, sym, ap, ap₂, _∙_}
-use mathlib.Core.Bool.{Bool, true, false, true≢false, false≢true, xor, _&&_, _||_}
+use mathlib.Core.Bool.{Bool, false, true≢false, false≢true, xor, _&&_, _||_}
 use mathlib.Core.List.{List}
 use Prim.Native.Nat.{ℕ, zero, suc, _+_, _-_, _*_, _/_, _%_, _^_, _≤_, _<_, zero-le}
 use native.Mathlib.Nat.{mod-lt, not-suc-le-zero, le-of-suc-le-suc, div-eq-of-lt, div-add-mod, div-one, lt-of-lt-of-le, mul-mod-left, mul-assoc, add-comm, zero-lt-suc, mod-eq-of-lt, add-zero, mul-add-div, mul-add-mod-self-left, div-lt-iff-lt-mul, le-div-iff-mul-le, mul-comm, lt-of-le-of-lt}

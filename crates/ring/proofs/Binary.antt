@@ -1,13 +1,13 @@
 -- A number and its binary digits determine each other. Assumes nothing.
-use mathlib.Core.Path.{_≡_, refl, sym, ap, _∙_}
+use mathlib.Core.Path.{_≡_, refl, sym, _∙_}
 use mathlib.Core.Bool.{Bool, true, false}
-use Prim.Native.Nat.{ℕ, zero, suc, _+_, _-_, _*_, _/_, _%_, _^_, _≤_, _<_}
-use native.Mathlib.Nat.{le-refl, not-suc-le-zero, lt-of-lt-of-le, div-eq-of-lt, pow-suc, add-comm, mod-one, mod-eq-of-lt}
+use Prim.Native.Nat.{ℕ, zero, suc, _+_, _*_, _/_, _%_, _^_, _≤_, _<_}
+use native.Mathlib.Nat.{le-refl, not-suc-le-zero, lt-of-lt-of-le, pow-suc, add-comm, mod-one, mod-eq-of-lt}
 use native.Mathlib.Decide.{decLe, ℕ-discrete}
 use native.Mathlib.Numerals.{one-add}
 use native.Mathlib.Omega.{arith}
 use lib.Dec.{eqb}
-use lib.Pow.{pow-pos, pow-mono, mod-pow-add, mod-mod-pow, field, high, low}
+use lib.Pow.{pow-pos, pow-mono, mod-pow-add, high, low}
 use borrow.Author.Tests.{eq-eqb, ne-eqb}
 use Rattle.hashing.proofs.Words.{bit-mod}
 use Rattle.hashing.specs.Lists.{bitAt}

@@ -33,7 +33,7 @@ unfolding same
 same-of zero a b h = refl
 same-of (suc r) a b h = rw (same-of r a b (λ k below. h k (omega arith)), h r (le-refl (suc r)), flip-self (b r))
 
-same-true : (r : ℕ) (a b : Poly) → same r a b ≡ true → (k : ℕ) → k < r → a k ≡ b k
+pub same-true : (r : ℕ) (a b : Poly) → same r a b ≡ true → (k : ℕ) → k < r → a k ≡ b k
 unfolding same
 same-true zero a b e k below = absurd (not-suc-le-zero below)
 same-true (suc r) a b e k below = go (both-true (same r a b) (not (flip (a r) (b r))) e) (same-true r a b) (ℕ-discrete k r)

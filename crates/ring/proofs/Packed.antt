@@ -1,6 +1,6 @@
 -- Lists of words as bits: zeros, a word that is stored, and a list that is filled word by word. Assumes nothing.
 use mathlib.Core.Path.{_≡_, refl, sym, ap, fun-ext, _∙_}
-use mathlib.Core.Bool.{Bool, true, false}
+use mathlib.Core.Bool.{Bool, false}
 use mathlib.Core.List.{List}
 use Prim.Native.Nat.{ℕ, _+_, _*_, _/_, _%_, _^_, _≤_, _<_}
 use native.Mathlib.Decide.{decLt, ℕ-discrete}

@@ -8,7 +8,7 @@ use native.Mathlib.Decide.{ℕ-discrete}
 use native.Mathlib.Omega.{arith}
 use lib.Arith.{lt-one}
 use lib.Count.{ones, ones-cat}
-use lib.Dec.{eqb, lit<}
+use lib.Dec.{eqb}
 use lib.Pow.{pow-pos, split, shr-lt}
 use borrow.Author.Tests.{eq-eqb, ne-eqb}
 use Rattle.hashing.specs.Lists.{bitAt}

@@ -1,15 +1,15 @@
 -- Laws of the permutation's definitions that the proofs of its code cite. Assumes nothing.
-use mathlib.Core.Path.{_≡_, refl, sym, ap, _∙_, subst}
+use mathlib.Core.Path.{_≡_, sym, ap, _∙_, subst}
 use mathlib.Core.Bool.{Bool, true, false, _||_, or-false}
 use mathlib.Core.List.{List, [], _∷_}
 use Prim.Native.Nat.{ℕ, zero, suc, _+_, _-_, _*_, _/_, _%_, _^_, _≤_, _<_}
-use native.Mathlib.Nat.{mod-lt, mul-mod-left, add-zero, add-comm}
+use native.Mathlib.Nat.{mod-lt, add-comm}
 use native.Mathlib.Decide.{decLt}
 use native.Mathlib.Omega.{arith}
 use lib.Bits.{bitOr, bitXor, bitAnd, or-shifted}
 use lib.Dec.{lit<}
 use lib.ListN.{length, getD, set, length-set}
-use lib.Pow.{shl-shr, shr-shr, shr-lt}
+use lib.Pow.{shr-shr, shr-lt}
 use Rattle.hashing.specs.Keccak.{lane, plane, state, rotate, complement, parityC, effectD, theta, isAt, walk, offsetWithin, offset, rho, pi, chi, iota, rnd, rounds, keccakF}
 use Rattle.hashing.specs.Lists.{tab, bitAt}
 use Rattle.hashing.proofs.Words.{bit-or, bit-mod, bit-shl, bit-shl-below, bit-shr, bit-above, shl-mod}

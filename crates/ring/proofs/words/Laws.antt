@@ -8,20 +8,19 @@ use native.Mathlib.Nat.{not-suc-le-zero, add-comm, one-mul, mod-lt}
 use native.Mathlib.Decide.{decLt}
 use native.Mathlib.Omega.{arith}
 use borrow.Author.Count.{below-more}
-use lib.Bits.{bitOr, bitXor}
+use lib.Bits.{bitOr}
 use lib.Count.{ones}
 use lib.Dec.{lit<}
 use lib.ListN.{length, getD, set, replicate, length-set}
 use lib.Pow.{shl-exact, pow-pos}
 use lib.Seq.{getD-set-same, getD-set-other}
 use Rattle.hashing.specs.Lists.{bitAt, bits}
-use Rattle.hashing.proofs.Words.{bit-or, bit-xor, bit-mod, bit-shl, bit-shl-below, bit-shr, bit-above, bit-zero, bits-at, bits-by, bits-out, zero-at}
+use Rattle.hashing.proofs.Words.{bit-or, bit-mod, bit-shl, bit-shl-below, bit-shr, bit-above, bit-zero, bits-at, bits-by, bits-out, zero-at}
 use Rattle.ring.specs.Bytes.{number}
 use Rattle.ring.specs.Polynomials.{weight}
-use Rattle.ring.specs.Polynomials.{Poly, InRing, flip}
+use Rattle.ring.specs.Polynomials.{Poly, InRing}
 use Rattle.ring.specs.Wide.{shifted, Outside}
 use Rattle.ring.proofs.Binary.{number-of}
-use Rattle.ring.proofs.Packed.{bit-flip}
 use Rattle.ring.proofs.Weights.{weight-ext, weight-add, weight-word}
 use Rattle.ring.proofs.Shifts.{shifted-below, shifted-from}
 

@@ -1,6 +1,6 @@
 -- `hashing::keccak::turn`: antt works the walk of 3.2.2 out for the whole table.
 use mathlib.Core.Path.{refl}
-use Prim.Native.Nat.{ℕ, _%_, _/_}
+use Prim.Native.Nat.{_%_, _/_}
 use borrow.Author.Needs.{needs}
 use Rattle.hashing.specs.Keccak.{offset, offsetWithin, walk, isAt}
 use Rattle.hashing.specs.Lists.{tab}

@@ -1,0 +1,305 @@
+-- Demand 3, over the definitions that the contracts cite, once for every level. Assumes nothing.
+use mathlib.Core.Path.{_≡_, refl, sym, ap, ap₂, _∙_, fun-ext}
+use mathlib.Core.Bool.{Bool, true, false, _&&_, and-false, true≢false}
+use mathlib.Core.List.{List, _++_}
+use Prim.Native.Nat.{ℕ, zero, suc, _+_, _^_, _≤_, _<_}
+use native.Mathlib.Decide.{ℕ-discrete, decLt}
+use native.Mathlib.Nat.{not-suc-le-zero}
+use native.Mathlib.Omega.{arith}
+use borrow.Author.Tests.{le-ltb, ltb-false}
+use lib.Bits.{bitXor, xor-self, xor-zero-r, xor-lt}
+use lib.Dec.{ltb, lit<}
+use lib.ListN.{length, getD, take, drop, length-take, length-drop, take-append-drop, List·getD-eq-default}
+use lib.Seq.{drop-at, length-take-le, getD-take, getD-drop}
+use Rattle.hashing.specs.Lists.{tab, bits}
+use Rattle.hashing.specs.Sponge.{sha3-384}
+use Rattle.hashing.proofs.Lists.{length-tab, getD-tab, tab-getD, tab-ext}
+use Rattle.hashing.proofs.Words.{xor-assoc}
+use Rattle.hashing.proofs.sponge.Squeezing.{sponge-bytes}
+use Rattle.ring.specs.Bytes.{bytesOf}
+use Rattle.ring.specs.Levels.{Level, messageBytes, polyBytes}
+use Rattle.ring.specs.Polynomials.{Poly, InRing, bit, same, weight, one, add, mul}
+use Rattle.ring.proofs.Inverses.{same-equal}
+use Rattle.ring.proofs.Layouts.{bytesOf-length, bytesOf-bits, pad-rule}
+use Rattle.ring.proofs.Parity.{flip-self, flip-false}
+use Rattle.ring.proofs.Ring
+use Rattle.exchange.proofs.Bools.{both-true}
+use Rattle.exchange.specs.Decoder.{nothing, residual, reaching, among, flipped, black, round, maskedStep, firstRound, after, decoded, failed}
+use Rattle.exchange.specs.Fits.{Bytes, WellFormed, Fits}
+use Rattle.exchange.specs.Opening.{secret, syndromeOf, sigma, found, messageOf, sameError, opened}
+use Rattle.exchange.specs.Scheme.{Pair, hashH, hashL, hashK, split, xorBytes, wrapped}
+
+-- exclusive or with the same bytes twice
+pub xor-twice : (a b : List ℕ) → length a ≡ messageBytes → xorBytes (xorBytes a b) b ≡ a
+unfolding xorBytes
+xor-twice a b size = tab-ext messageBytes _ (λ i. getD a i 0) twice ∙ whole
+  where
+    twice : (i : ℕ) → i < messageBytes → bitXor (getD (tab messageBytes (λ k. bitXor (getD a k 0) (getD b k 0))) i 0) (getD b i 0) ≡ getD a i 0
+    twice i h =
+        rw (getD-tab messageBytes (λ k. bitXor (getD a k 0) (getD b k 0)) 0 i h, xor-assoc (getD a i 0) (getD b i 0) (getD b i 0), xor-self (getD b i 0))
+        (xor-zero-r (getD a i 0))
+
+    whole : tab messageBytes (λ i. getD a i 0) ≡ a
+    whole = rw size at (tab-getD a 0)
+
+same-refl : (r : ℕ) (a : Poly) → same r a a ≡ true
+unfolding same
+same-refl zero a = refl
+same-refl (suc r) a = rw (same-refl r a, flip-self (a r))
+
+-- what opening takes for the error
+found-of : (l : Level) (h : Pair) (s : Poly) → failed l h s ≡ false → found l h s ≡ decoded l h s
+unfolding found
+found-of l h s e = rw (e, found)
+
+found-none : (l : Level) (h : Pair) (s : Poly) → failed l h s ≡ true → found l h s ≡ nothing
+unfolding found
+found-none l h s e = rw (e, found)
+
+module _ (l : Level) {public private c m : List ℕ} where
+  -- the message that opening works out of m's own error is m
+  fits-message : Fits l public private c m → messageOf l (hashH l m) c ≡ m
+  unfolding messageOf wrapped
+  fits-message fits =
+      rw (← (fits .wraps), drop-at (bytesOf (l .r) (add (hashH l m .half0) (mul (l .r) (hashH l m .half1) (bits 8 public)))) (xorBytes m (hashL (l .r) (hashH l m))) (polyBytes l) (bytesOf-length (l .r) _))
+      (xor-twice m (hashL (l .r) (hashH l m)) (fits .message .size))
+
+  -- "If one fits, opening gives the session key that wrapping m gave"
+  pub fitting-opens : Fits l public private c m → opened l private c ≡ hashK m c
+  unfolding opened sameError
+  fitting-opens fits =
+      let e : found l (secret l private) (syndromeOf l private c) ≡ hashH l m = found-of l _ _ (fits .decodes) ∙ fits .finds in
+      rw (e, fits-message fits, same-refl (l .r) (hashH l m .half0), same-refl (l .r) (hashH l m .half1), opened) (rw (e, fits-message fits))
+
+-- "At most one m fits a ciphertext"
+pub at-most-one : (l : Level) {public private c m n : List ℕ} → Fits l public private c m → Fits l public private c n → m ≡ n
+at-most-one l {c = c} fits other =
+    sym (fits-message l fits) ∙ ap (λ e. messageOf l e c) (sym (fits .finds) ∙ other .finds) ∙ fits-message l other
+
+-- "and no m fits two"
+pub no-two : (l : Level) {public private c d m : List ℕ} → Fits l public private c m → Fits l public private d m → c ≡ d
+no-two l fits other = sym (fits .wraps) ∙ other .wraps
+
+abbrev InPair : ℕ → Pair → Type 0
+InPair r e = InRing r (e .half0) × InRing r (e .half1)
+
+-- what is marked below r is in the ring
+below-in : (r : ℕ) (f : ℕ → Bool) → InRing r (λ j. ltb j r && f j)
+below-in r f k past = rw (le-ltb k r past)
+
+reaching-in : (r : ℕ) (h : Pair) (res : Poly) (bound : ℕ) → InPair r (reaching r h res bound)
+unfolding reaching
+reaching-in r h res bound = (below-in r _, below-in r _)
+
+flipped-in : (r : ℕ) (e f : Pair) → InPair r e → InPair r f → InPair r (flipped e f)
+unfolding flipped
+flipped-in r e f he hf = (Ring.add-in r (he .0) (hf .0), Ring.add-in r (he .1) (hf .1))
+
+among-in : (r : ℕ) (marks e : Pair) → InPair r e → InPair r (among marks e)
+unfolding among
+among-in r marks e he =
+    (λ k past. rw (he .0 k past) (and-false (marks .half0 k)), λ k past. rw (he .1 k past) (and-false (marks .half1 k)))
+
+module _ (l : Level) (h : Pair) (s : Poly) where
+  masked-in : (marks e : Pair) → InPair (l .r) e → InPair (l .r) (maskedStep l h s marks e)
+  unfolding maskedStep
+  masked-in marks e he = flipped-in (l .r) e _ he (among-in (l .r) marks _ (reaching-in (l .r) h _ _))
+
+  round-in : (e : Pair) → InPair (l .r) e → InPair (l .r) (round l h s e)
+  unfolding round black
+  round-in e he = flipped-in (l .r) e _ he (reaching-in (l .r) h _ _)
+
+  after-in : (n : ℕ) → InPair (l .r) (after l h s n)
+  unfolding after firstRound nothing
+  after-in zero = (λ k past. refl, λ k past. refl)
+  after-in (suc zero) = masked-in _ _ (masked-in _ _ (round-in _ (λ k past. refl, λ k past. refl)))
+  after-in (suc (suc n)) = round-in _ (after-in (suc n))
+
+  decoded-in : InPair (l .r) (decoded l h s)
+  unfolding decoded
+  decoded-in = after-in 5
+
+hashH-in : (l : Level) (m : List ℕ) → InPair (l .r) (hashH l m)
+unfolding hashH split
+hashH-in l m = (below-in (l .r) _, below-in (l .r) _)
+
+-- a polynomial of the ring with weight 0 is 0
+weightless : (r : ℕ) (a : Poly) → weight r a ≡ 0 → (k : ℕ) → k < r → a k ≡ false
+unfolding weight
+weightless zero a e k below = absurd (not-suc-le-zero below)
+weightless (suc r) a e k below = go (ℕ-discrete k r) (weightless r a (omega arith))
+  where
+    bit-false : (b : Bool) → bit b ≡ 0 → b ≡ false
+    bit-false true q = let z : _≡_ {A = ℕ} 0 1 = sym q in absurd (omega arith)
+    bit-false false q = refl
+
+    go : Dec (k ≡ r) → ((i : ℕ) → i < r → a i ≡ false) → a k ≡ false
+    go (yes here) before = rw here (bit-false (a r) (omega arith))
+    go (no there) before = before k (omega arith)
+
+pair-path : {e f : Pair} → e .half0 ≡ f .half0 → e .half1 ≡ f .half1 → e ≡ f
+pair-path p q = λ i. record { half0 = p i; half1 = q i }
+
+-- no bit is left where the decoder did not fail
+gone : (l : Level) (h : Pair) (s : Poly) → 0 < l .r → InRing (l .r) s → failed l h s ≡ false
+    → residual (l .r) h s (decoded l h s) ≡ (λ k. false)
+unfolding failed residual
+gone l h s pos hs ok =
+    Ring.ring-ext (l .r)
+    (Ring.add-in (l .r) hs (Ring.add-in (l .r) (Ring.mul-in (l .r) pos _ _) (Ring.mul-in (l .r) pos _ _)))
+    (λ k past. refl)
+    (weightless (l .r) (residual (l .r) h s (decoded l h s)) (none _ ok))
+  where
+    none : (n : ℕ) → ltb 0 n ≡ false → n ≡ 0
+    none n e = let most : n ≤ 0 = ltb-false 0 n e in omega arith
+
+-- what key making makes: h0·g = 1 and h = h1·g
+pub record Matched (r : ℕ) (h : Poly) (k : Pair) : Type 0 where
+  pub inverse : Poly
+  pub inverts : mul r (k .half0) inverse ≡ one r
+  pub made : h ≡ mul r (k .half1) inverse
+
+add-none : (a : Poly) → add a (λ k. false) ≡ a
+unfolding add
+add-none a = fun-ext (λ k. flip-false (a k))
+
+module _ (r : ℕ) (pos : 0 < r) where
+  undo : (k : Pair) (g a : Poly) → mul r (k .half0) g ≡ one r → InRing r a → mul r (mul r a (k .half0)) g ≡ a
+  undo k g a inverts ha =
+      Ring.mul-assoc r pos a (k .half0) g ∙ ap (mul r a) inverts ∙ Ring.mul-comm r a (one r) ∙ Ring.one-mul r pos ha
+
+  -- "c0·h0 + e0·h0 + e1·h1 = 0" says that c0 = e0 + e1·h
+  recover : (h c0 : Poly) (k e : Pair) → Matched r h k → InRing r c0 → InRing r (e .half0)
+      → residual r k (mul r c0 (k .half0)) e ≡ (λ i. false) → c0 ≡ add (e .half0) (mul r (e .half1) h)
+  unfolding residual
+  recover h c0 k e matched hc he none =
+      let g = matched .inverse in
+      let s = mul r c0 (k .half0) in
+      let x = add (mul r (e .half0) (k .half0)) (mul r (e .half1) (k .half1)) in
+      let equal : x ≡ s = sym (Ring.add-cancel s x) ∙ ap (add s) none ∙ add-none s in
+      sym (undo k g c0 (matched .inverts) hc) ∙ ap (λ y. mul r y g) (sym equal) ∙ Ring.add-mul r _ _ g
+      ∙ ap₂ add (undo k g (e .half0) (matched .inverts) he) (Ring.mul-assoc r pos (e .half1) (k .half1) g ∙ ap (mul r (e .half1)) (sym (matched .made)))
+
+-- bytes stay bytes
+abbrev Small : List ℕ → Type 0
+Small xs = (i : ℕ) → getD xs i 0 < 2 ^ 8
+
+small-tab : (n : ℕ) (f : ℕ → ℕ) → ((i : ℕ) → f i < 2 ^ 8) → Small (tab n f)
+small-tab n f h i = go (decLt i n)
+  where
+    go : Dec (i < n) → getD (tab n f) i 0 < 2 ^ 8
+    go (yes below) = rw (getD-tab n f 0 i below) (h i)
+    go (no past) =
+        let out : length (tab n f) ≤ i = rw (length-tab n f) (omega arith) in rw (List·getD-eq-default (tab n f) 0 out) (lit< tt)
+
+small-take : (n : ℕ) (xs : List ℕ) → Small xs → Small (take n xs)
+small-take n xs h i = go (decLt i n)
+  where
+    go : Dec (i < n) → getD (take n xs) i 0 < 2 ^ 8
+    go (yes below) = rw (getD-take n xs i 0 below) (h i)
+    go (no past) =
+        let out : length (take n xs) ≤ i = omega (arith, length-take n xs) in rw (List·getD-eq-default (take n xs) 0 out) (lit< tt)
+
+small-drop : (n : ℕ) (xs : List ℕ) → Small xs → Small (drop n xs)
+small-drop n xs h i = rw (getD-drop n xs i 0) (h (n + i))
+
+hashL-small : (r : ℕ) (e : Pair) → Small (hashL r e)
+unfolding hashL sha3-384
+hashL-small r e =
+    let M = bytesOf r (e .half0) ++ bytesOf r (e .half1) in small-take messageBytes (sha3-384 M) (sponge-bytes 104 (lit< tt) 0x06 M 48)
+
+messageOf-bytes : (l : Level) (e : Pair) (c : List ℕ) → Small c → Bytes messageBytes (messageOf l e c)
+unfolding messageOf xorBytes
+messageOf-bytes l e c hc =
+    let tail : Small (drop (polyBytes l) c) = small-drop (polyBytes l) c hc in
+    record {
+      size = length-tab messageBytes _;
+      small = small-tab messageBytes _ (λ i. xor-lt 8 _ _ (tail i) (hashL-small (l .r) e i));
+    }
+
+module _ (l : Level) (pos : 0 < l .r) (public private c : List ℕ) (wellFormed : WellFormed l c) (matched : Matched (l .r) (bits 8 public) (secret l private)) where
+  head : List ℕ
+  head = take (polyBytes l) c
+
+  head-size : length head ≡ polyBytes l
+  unfolding head
+  head-size = length-take-le (polyBytes l) c (omega (arith, wellFormed .bytes .size))
+
+  head-in : InRing (l .r) (bits 8 head)
+  unfolding head
+  head-in = pad-rule (l .r) head head-size (small-take (polyBytes l) c (wellFormed .bytes .small)) .0 (wellFormed .noPad)
+
+  -- where opening's check passes and decoding did not fail, the message that it worked out fits
+  passes-fits : (e : Pair) → e ≡ decoded l (secret l private) (syndromeOf l private c) → failed l (secret l private) (syndromeOf l private c) ≡ false
+      → e ≡ hashH l (messageOf l e c) → Fits l public private c (messageOf l e c)
+  unfolding head syndromeOf wrapped messageOf
+  passes-fits e is ok passes =
+      record { message = messageOf-bytes l e c (wellFormed .bytes .small); wraps = again; decodes = ok; finds = sym is ∙ passes }
+    where
+      s : Poly
+      s = syndromeOf l private c
+
+      k : Pair
+      k = secret l private
+
+      c0 : add (e .half0) (mul (l .r) (e .half1) (bits 8 public)) ≡ bits 8 head
+      c0 =
+          sym
+          (recover (l .r) pos (bits 8 public) (bits 8 head) k e matched head-in (rw is (decoded-in l k s .0))
+          (rw is (gone l k s pos (Ring.mul-in (l .r) pos _ _) ok)))
+
+      first : bytesOf (l .r) (bits 8 head) ≡ head
+      first = bytesOf-bits (l .r) head head-size (small-take (polyBytes l) c (wellFormed .bytes .small))
+
+      tail : xorBytes (messageOf l e c) (hashL (l .r) e) ≡ drop (polyBytes l) c
+      tail =
+          xor-twice (drop (polyBytes l) c) (hashL (l .r) e) (length-drop (polyBytes l) c ∙ omega (arith, wellFormed .bytes .size))
+
+      again : wrapped l (bits 8 public) (messageOf l e c) ≡ c
+      again = rw (← passes, c0, first, tail) (take-append-drop (polyBytes l) c)
+
+  same-fits : failed l (secret l private) (syndromeOf l private c) ≡ false
+      → sameError (l .r) (found l (secret l private) (syndromeOf l private c)) (hashH l (messageOf l (found l (secret l private) (syndromeOf l private c)) c)) ≡ true
+      → Fits l public private c (messageOf l (found l (secret l private) (syndromeOf l private c)) c)
+  unfolding sameError
+  same-fits ok same-error =
+      passes-fits e is ok
+      (pair-path (same-equal (l .r) (inside .0) (other .0) (halves .0)) (same-equal (l .r) (inside .1) (other .1) (halves .1)))
+    where
+      e : Pair
+      e = found l (secret l private) (syndromeOf l private c)
+
+      is : e ≡ decoded l (secret l private) (syndromeOf l private c)
+      is = found-of l (secret l private) (syndromeOf l private c) ok
+
+      inside : InPair (l .r) e
+      inside = rw is (decoded-in l (secret l private) (syndromeOf l private c))
+
+      other : InPair (l .r) (hashH l (messageOf l e c))
+      other = hashH-in l (messageOf l e c)
+
+      halves : (same (l .r) (e .half0) (hashH l (messageOf l e c) .half0) ≡ true) × (same (l .r) (e .half1) (hashH l (messageOf l e c) .half1) ≡ true)
+      halves = both-true _ _ same-error
+
+  -- "if none fits, the key worked out from the substitute sigma and this ciphertext"
+  pub none-opens : ((m : List ℕ) → sameError (l .r) nothing (hashH l m) ≡ false) → ((m : List ℕ) → Fits l public private c m → ⊥)
+      → opened l private c ≡ hashK (sigma l private) c
+  unfolding opened
+  none-opens weighty none = go (sameError (l .r) e (hashH l (messageOf l e c))) (failed l k s) refl refl
+    where
+      k : Pair
+      k = secret l private
+
+      s : Poly
+      s = syndromeOf l private c
+
+      e : Pair
+      e = found l k s
+
+      go : (same-error failure : Bool) → sameError (l .r) e (hashH l (messageOf l e c)) ≡ same-error → failed l k s ≡ failure
+          → opened l private c ≡ hashK (sigma l private) c
+      go false failure q p = rw (q, opened)
+      go true false q p = absurd (none (messageOf l e c) (same-fits p q))
+      go true true q p =
+          let at : sameError (l .r) nothing (hashH l (messageOf l nothing c)) ≡ true = rw (found-none l k s p) at q in
+          absurd (true≢false (sym at ∙ weighty (messageOf l nothing c)))

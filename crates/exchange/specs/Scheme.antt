@@ -1,0 +1,76 @@
+-- "Rules of the scheme": keys, the hash functions H, L and K, wrapping. Assumes nothing.
+use mathlib.Core.Bool.{_&&_}
+use mathlib.Core.List.{List, [], _∷_, _++_}
+use Prim.Native.Nat.{ℕ, _+_, _*_, _/_, _%_}
+use lib.Bits.{bitXor}
+use lib.Dec.{ltb}
+use lib.ListN.{getD, take, drop}
+use Rattle.hashing.specs.Lists.{tab}
+use Rattle.hashing.specs.Sponge.{shake256, sha3-384}
+use Rattle.ring.specs.Bytes.{bytesOf}
+use Rattle.ring.specs.Levels.{Level, messageBytes}
+use Rattle.ring.specs.Polynomials.{Poly, rising, add, mul, inverseOf}
+use Rattle.exchange.specs.Sampler.{numbers, listed, sampleKey, sampleError}
+
+-- two polynomials: h0 and h1 of a private key, e0 and e1 of an error
+pub record Pair : Type 0 where
+  pub half0 : Poly
+  pub half1 : Poly
+
+-- the polynomial whose exponents are listed
+unfoldable pub support : List ℕ → Poly
+support positions k = listed k positions
+
+-- "Key making": the stream of the seed's first 32 bytes, "4d bytes for h0, then the next 4d for h1, each sampled with len r and weight d"
+unfoldable pub keyStream : Level → List ℕ → List ℕ
+keyStream l seed = shake256 (take messageBytes seed) (8 * l .d)
+
+unfoldable pub h0Of : Level → List ℕ → Poly
+h0Of l seed = support (sampleKey (l .r) (l .d) (numbers 4 (l .d) (keyStream l seed)))
+
+unfoldable pub h1Of : Level → List ℕ → Poly
+h1Of l seed = support (sampleKey (l .r) (l .d) (numbers 4 (l .d) (drop (4 * l .d) (keyStream l seed))))
+
+-- "The seed's last 32 bytes are sigma"
+unfoldable pub sigmaOf : List ℕ → List ℕ
+sigmaOf seed = drop messageBytes seed
+
+-- "Public key h = h1 · h0^(−1)"
+unfoldable pub publicOf : Level → List ℕ → Poly
+publicOf l seed = mul (l .r) (h1Of l seed) (inverseOf (l .r) (h0Of l seed))
+
+-- "two bytes each, little-endian"
+unfoldable pub twoBytes : List ℕ → List ℕ
+twoBytes [] = []
+twoBytes (p ∷ rest) = p % 256 ∷ p / 256 ∷ twoBytes rest
+
+-- "Private key: d positions of h0, d positions of h1 ..; then sigma"
+unfoldable pub privateKey : ℕ → Poly → Poly → List ℕ → List ℕ
+privateKey r h0 h1 sigma = twoBytes (rising r h0) ++ (twoBytes (rising r h1) ++ sigma)
+
+-- "H(m): SHAKE256 of m, 4t bytes, len 2r, weight t; position p below r is bit p of e0, else bit p − r of e1"
+unfoldable pub errorPositions : Level → List ℕ → List ℕ
+errorPositions l m = sampleError (2 * l .r) (l .t) (numbers 4 (l .t) (shake256 m (4 * l .t)))
+
+unfoldable pub split : ℕ → List ℕ → Pair
+split r positions =
+    record { half0 = λ k. ltb k r && listed k positions; half1 = λ k. ltb k r && listed (r + k) positions }
+
+unfoldable pub hashH : Level → List ℕ → Pair
+hashH l m = split (l .r) (errorPositions l m)
+
+-- "L(e0, e1): first 32 bytes of SHA3-384 over both polynomials' bytes, pads included"
+unfoldable pub hashL : ℕ → Pair → List ℕ
+hashL r e = take messageBytes (sha3-384 (bytesOf r (e .half0) ++ bytesOf r (e .half1)))
+
+-- "K(m, c): first 32 bytes of SHA3-384 over m, then the ciphertext bytes"
+unfoldable pub hashK : List ℕ → List ℕ → List ℕ
+hashK m c = take messageBytes (sha3-384 (m ++ c))
+
+unfoldable pub xorBytes : List ℕ → List ℕ → List ℕ
+xorBytes a b = tab messageBytes (λ i. bitXor (getD a i 0) (getD b i 0))
+
+-- "Wrapping. (e0, e1) = H(m); c0 = e0 + e1·h; c1 = m xor L(e0, e1); key K(m, c)"
+unfoldable pub wrapped : Level → Poly → List ℕ → List ℕ
+wrapped l h m =
+    let e = hashH l m in bytesOf (l .r) (add (e .half0) (mul (l .r) (e .half1) h)) ++ xorBytes m (hashL (l .r) e)

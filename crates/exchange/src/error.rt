@@ -1,0 +1,99 @@
+// H: the error of a message, as the two halves that wrapping sends and opening looks for.
+use crate::sampler;
+use crate::size;
+use hashing::fill;
+use hashing::sponge;
+ghost use mathlib.Core.Path.{_≡_};
+ghost use mathlib.Core.Bool.{_&&_, _||_};
+ghost use Prim.Native.Nat.{_+_, _*_, _≤_};
+ghost use lib.Dec.{eqb, ltb};
+ghost use lib.ListN.{length, take};
+ghost use Rattle.hashing.specs.Lists.{bits};
+ghost use Rattle.hashing.specs.Sponge.{shake256};
+ghost use Rattle.ring.specs.Bytes.{byteLength, bytesOf};
+ghost use Rattle.ring.specs.Levels.{levelOf, polyBytes};
+ghost use Rattle.exchange.specs.Sampler.{listed};
+ghost use Rattle.exchange.specs.Scheme.{errorPositions, hashH};
+
+// Room for the positions of the largest level, and for the words that they come from.
+fn no_positions() -> [u32; 199]
+    ensures { λ r. ⌜ 199 ≡ length r ⌝ }
+{
+    [0; 199]
+}
+
+fn no_words() -> [u8; 796]
+    ensures { λ r. ⌜ 796 ≡ length r ⌝ }
+{
+    [0; 796]
+}
+
+// The stream of the message: 4t bytes.
+fn stream(level: u32, message: &[u8]) -> [u8; 796]
+    ensures { λ r. ⌜ take (4 * levelOf level .t) r ≡ shake256 (now (message .entry)) (4 * levelOf level .t) ⌝ }
+{
+    let n = 4 * size::error_weight(level);
+    let mut words = no_words();
+    sponge::digest(
+        sponge::SHAKE256_RATE,
+        sponge::SHAKE256_SUFFIX,
+        message,
+        &mut words[..n],
+    );
+    words
+}
+
+// The t positions of the error, at the front of the list.
+fn positions(level: u32, message: &[u8]) -> [u32; 199]
+    ensures { λ r. ⌜ take (levelOf level .t) r ≡ errorPositions (levelOf level) (now (message .entry)) ⌝ }
+{
+    let t = size::error_weight(level);
+    let n = 4 * t;
+    let len = 2 * (size::block(level) as u32);
+    let words = stream(level, message);
+    let mut list = no_positions();
+    sampler::sample(len, &words[..n], &mut list[..t]);
+    list
+}
+
+// Sets the bit of a position that is one of the r from `from` on.
+fn put(r: u32, from: u32, position: u32, out: &mut [u8])
+    requires { ⌜ r ≤ 8 * length (now out) ⌝ }
+    ensures { λ _. ⌜ bits 8 (now (out .exit)) ≡ (λ k. bits 8 (now (out .entry)) k || (ltb k r && eqb (from + k) position)) ⌝ }
+{
+    if position < from {
+        return;
+    }
+    let k = position - from;
+    if k < r {
+        let i = (k / 8) as usize;
+        out[i] = out[i] | (1 << (k % 8));
+    }
+}
+
+// One half: of the r positions from `from` on, those that are listed.
+fn place(list: &[u32], r: u32, from: u32, out: &mut [u8])
+    requires { ⌜ length (now out) ≡ byteLength r ⌝ }
+    ensures { λ _. ⌜ now (out .exit) ≡ bytesOf r (λ k. ltb k r && listed (from + k) (now (list .entry))) ⌝ }
+{
+    fill::zero(out);
+    let mut i = 0;
+    while i < list.len() {
+        put(r, from, list[i], out);
+        i += 1;
+    }
+}
+
+// H for buffers of the level's length.
+pub fn hash_h(level: u32, message: &[u8], e0: &mut [u8], e1: &mut [u8])
+    requires { ⌜ (length (now e0) ≡ polyBytes (levelOf level)) × (length (now e1) ≡ polyBytes (levelOf level)) ⌝ }
+    ensures { λ _.
+        ⌜ (now (e0 .exit) ≡ bytesOf (levelOf level .r) (hashH (levelOf level) (now (message .entry)) .half0))
+        × (now (e1 .exit) ≡ bytesOf (levelOf level .r) (hashH (levelOf level) (now (message .entry)) .half1)) ⌝ }
+{
+    let t = size::error_weight(level);
+    let r = size::block(level) as u32;
+    let list = positions(level, message);
+    place(&list[..t], r, 0, e0);
+    place(&list[..t], r, r, e1);
+}
