@@ -42,7 +42,7 @@ xor-twice a b size = tab-ext messageBytes _ (λ i. getD a i 0) twice ∙ whole
     whole : tab messageBytes (λ i. getD a i 0) ≡ a
     whole = rw size at (tab-getD a 0)
 
-same-refl : (r : ℕ) (a : Poly) → same r a a ≡ true
+pub same-refl : (r : ℕ) (a : Poly) → same r a a ≡ true
 unfolding same
 same-refl zero a = refl
 same-refl (suc r) a = rw (same-refl r a, flip-self (a r))

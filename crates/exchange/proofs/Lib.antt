@@ -1,10 +1,10 @@
 pub mod Bools
 pub mod Demand
 pub mod Errors
-pub mod Keys
 pub mod Levels
 pub mod Making
+pub mod Pairs
+pub mod Parts
 pub mod Promises
 pub mod Streams
 pub mod Table
-pub mod Pairs

@@ -21,7 +21,7 @@ use Rattle.ring.specs.Bytes.{bytesOf, padSet}
 use Rattle.exchange.proofs.Bools.{both-true, both-false, agree}
 use Rattle.exchange.proofs.Demand.{Matched, at-most-one, no-two, fitting-opens, none-opens}
 use Rattle.exchange.proofs.Errors.{error-weight}
-use Rattle.exchange.proofs.Keys.{h0-half, h1-half}
+use Rattle.exchange.proofs.keys.Laws.{h0-half, h1-half}
 use Rattle.exchange.proofs.Levels.{sizes}
 use Rattle.exchange.proofs.Making.{positions0-back, positions1-back, sigma-back, secret-back, rising-good}
 use Rattle.exchange.specs.Decoder.{nothing}

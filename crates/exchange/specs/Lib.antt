@@ -1,3 +1,4 @@
+pub mod Counting
 pub mod Decoder
 pub mod Examples
 pub mod Fits
@@ -6,3 +7,5 @@ pub mod Promises
 pub mod Records
 pub mod Sampler
 pub mod Scheme
+pub mod Session
+pub mod Working

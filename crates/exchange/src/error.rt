@@ -15,7 +15,7 @@ ghost use Rattle.ring.specs.Levels.{levelOf, polyBytes};
 ghost use Rattle.exchange.specs.Sampler.{listed};
 ghost use Rattle.exchange.specs.Scheme.{errorPositions, hashH};
 
-// Room for the positions of the largest level, and for the words that they come from.
+// Room for the positions of the largest level, for the words that they come from, and for the bytes of a half.
 fn no_positions() -> [u32; 199]
     ensures { λ r. ⌜ 199 ≡ length r ⌝ }
 {
@@ -26,6 +26,12 @@ fn no_words() -> [u8; 796]
     ensures { λ r. ⌜ 796 ≡ length r ⌝ }
 {
     [0; 796]
+}
+
+pub fn no_bytes() -> [u8; 3083]
+    ensures { λ r. ⌜ 3083 ≡ length r ⌝ }
+{
+    [0; 3083]
 }
 
 // The stream of the message: 4t bytes.
@@ -72,7 +78,7 @@ fn put(r: u32, from: u32, position: u32, out: &mut [u8])
 }
 
 // One half: of the r positions from `from` on, those that are listed.
-fn place(list: &[u32], r: u32, from: u32, out: &mut [u8])
+pub fn place(list: &[u32], r: u32, from: u32, out: &mut [u8])
     requires { ⌜ length (now out) ≡ byteLength r ⌝ }
     ensures { λ _. ⌜ now (out .exit) ≡ bytesOf r (λ k. ltb k r && listed (from + k) (now (list .entry))) ⌝ }
 {
@@ -96,4 +102,22 @@ pub fn hash_h(level: u32, message: &[u8], e0: &mut [u8], e1: &mut [u8])
     let list = positions(level, message);
     place(&list[..t], r, 0, e0);
     place(&list[..t], r, r, e1);
+}
+
+pub struct Halves {
+    pub e0: [u8; 3083],
+    pub e1: [u8; 3083],
+}
+
+// H by value: each half at the front of its array.
+pub fn halves_of(level: u32, message: &[u8]) -> Halves
+    ensures { λ e.
+        ⌜ (take (polyBytes (levelOf level)) (e .e0) ≡ bytesOf (levelOf level .r) (hashH (levelOf level) (now (message .entry)) .half0))
+        × (take (polyBytes (levelOf level)) (e .e1) ≡ bytesOf (levelOf level .r) (hashH (levelOf level) (now (message .entry)) .half1)) ⌝ }
+{
+    let n = size::polynomial(level);
+    let mut e0 = no_bytes();
+    let mut e1 = no_bytes();
+    hash_h(level, message, &mut e0[..n], &mut e1[..n]);
+    Halves { e0, e1 }
 }

@@ -1,18 +1,28 @@
 // BIKE as document 01 fixes it: key making, wrapping, decoding, opening, and the record reader.
+pub mod bytes;
+pub mod counters;
+pub mod decoder;
+pub mod digest;
+pub mod doors;
 pub mod error;
+pub mod keys;
 pub mod little_endian;
+pub mod opening;
 pub mod record;
 pub mod sampler;
 pub mod size;
+pub mod wrapping;
 
 use hashing::fill;
 pub use record::read_record;
+use ring::layout::pad_set;
 use ring::level;
+use ring::words;
 ghost use mathlib.Core.Path.{_≡_};
 ghost use mathlib.Core.List.{[], _∷_};
 ghost use lib.ListN.{length, replicate};
 ghost use Rattle.hashing.specs.Answers.Outcome.{gives};
-ghost use Rattle.exchange.specs.Promises.{error-of-says};
+ghost use Rattle.exchange.specs.Promises.{error-of-says, make-key-says, wrap-says, decode-says};
 
 // A refusal: its number, and zeros in both outputs.
 fn refuse(number: u32, out0: &mut [u8], out1: &mut [u8]) -> u32
@@ -40,5 +50,84 @@ pub fn error_of(level: u32, message: &[u8], e0: &mut [u8], e1: &mut [u8]) -> u32
         return refuse(2, e0, e1);
     }
     error::hash_h(level, message, e0, e1);
+    0
+}
+
+// Key making: a public and a private key from a seed.
+pub fn make_key(level: u32, seed: &[u8], public_key: &mut [u8], private_key: &mut [u8]) -> u32
+    ensures { λ r.
+        ⌜ gives r (now («public_key» .exit) ∷ now («private_key» .exit) ∷ [])
+        ≡ make-key-says level (now (seed .entry)) (length (now («public_key» .entry))) (length (now («private_key» .entry))) ⌝ }
+{
+    if !level::known(level) {
+        return refuse(1, public_key, private_key);
+    }
+    let n = size::polynomial(level);
+    let m = size::private_key(level);
+    if (seed.len() != size::SEED) | (public_key.len() != n) | (private_key.len() != m) {
+        return refuse(2, public_key, private_key);
+    }
+    keys::make(level, seed, public_key, private_key)
+}
+
+// Wrapping: a ciphertext and a session key from a public key and a message.
+pub fn wrap(
+    level: u32,
+    public_key: &[u8],
+    message: &[u8],
+    ciphertext: &mut [u8],
+    session_key: &mut [u8],
+) -> u32
+    ensures { λ r.
+        ⌜ gives r (now (ciphertext .exit) ∷ now («session_key» .exit) ∷ [])
+        ≡ wrap-says level (now («public_key» .entry)) (now (message .entry)) (length (now (ciphertext .entry))) (length (now («session_key» .entry))) ⌝ }
+{
+    if !level::known(level) {
+        return refuse(1, ciphertext, session_key);
+    }
+    let n = size::polynomial(level);
+    let m = size::ciphertext(level);
+    if (public_key.len() != n)
+        | (message.len() != size::MESSAGE)
+        | (ciphertext.len() != m)
+        | (session_key.len() != size::MESSAGE)
+    {
+        return refuse(2, ciphertext, session_key);
+    }
+    wrapping::make(level, public_key, message, ciphertext, session_key)
+}
+
+// Decoding: the error of a syndrome under a private key.
+pub fn decode(level: u32, private_key: &[u8], syndrome: &[u8], e0: &mut [u8], e1: &mut [u8]) -> u32
+    ensures { λ r.
+        ⌜ gives r (now (e0 .exit) ∷ now (e1 .exit) ∷ [])
+        ≡ decode-says level (now («private_key» .entry)) (now (syndrome .entry)) (length (now (e0 .entry))) (length (now (e1 .entry))) ⌝ }
+{
+    if !level::known(level) {
+        return refuse(1, e0, e1);
+    }
+    let n = size::polynomial(level);
+    if (private_key.len() != size::private_key(level))
+        | (syndrome.len() != n)
+        | (e0.len() != n)
+        | (e1.len() != n)
+    {
+        return refuse(2, e0, e1);
+    }
+    if pad_set(size::block(level), syndrome) {
+        return refuse(3, e0, e1);
+    }
+    let key = decoder::read_key(level, private_key);
+    if !decoder::is_good(level, key) {
+        return refuse(4, e0, e1);
+    }
+    let found = decoder::decoded(level, key, words::load(syndrome));
+    if found.failed {
+        return refuse(6, e0, e1);
+    }
+    let f0 = found.e0;
+    let f1 = found.e1;
+    words::store(f0, e0);
+    words::store(f1, e1);
     0
 }

@@ -1,6 +1,6 @@
 -- A bit that is set in a list of bytes, and which bit a position is. Assumes nothing.
 use mathlib.Core.Path.{_≡_, refl, sym, ap, _∙_, fun-ext}
-use mathlib.Core.Bool.{Bool, _&&_, _||_, and-false, or-false, and-or-distrib-left}
+use mathlib.Core.Bool.{Bool, false, _&&_, _||_, and-false, or-false, and-or-distrib-left}
 use mathlib.Core.List.{List}
 use Prim.Native.Nat.{ℕ, zero, suc, _+_, _-_, _*_, _/_, _%_, _^_, _≤_, _<_}
 use native.Mathlib.Nat.{one-mul, zero-add, div-add-mod', le-refl}
@@ -51,24 +51,21 @@ bits-set w xs i e within low = fun-ext (λ k. go k (ℕ-discrete (k / w) i))
         )
         (sym (or-false (bitAt (getD xs (k / w) 0) (k % w))))
 
--- a position that is one of the r from `from` on adds its bit to a polynomial, and any other none
-module _ (r from position : ℕ) (a : Poly) where
-  pub hit : from ≤ position → position - from < r
-      → _≡_ {A = Poly} (λ k. a k || eqb k (position - from)) (λ k. a k || (ltb k r && eqb (from + k) position))
-  hit low high = fun-ext (λ k. ap (λ (t : Bool). a k || t) (go k (ℕ-discrete k (position - from))))
+-- a position that is one of the r from `from` on, or none of them
+module _ (r from position : ℕ) where
+  pub hit : from ≤ position → position - from < r → (k : ℕ) → ltb k r && eqb (from + k) position ≡ eqb k (position - from)
+  hit low high k = go (ℕ-discrete k (position - from))
     where
-      go : (k : ℕ) → Dec (k ≡ position - from) → eqb k (position - from) ≡ ltb k r && eqb (from + k) position
-      go k (yes same) =
-          rw (eq-eqb k (position - from) same, lt-ltb k r (omega arith), eq-eqb (from + k) position (omega arith))
-      go k (no other) =
-          rw (ne-eqb k (position - from) other, ne-eqb (from + k) position (omega arith)) (sym (and-false (ltb k r)))
+      go : Dec (k ≡ position - from) → ltb k r && eqb (from + k) position ≡ eqb k (position - from)
+      go (yes same) = rw (lt-ltb k r (omega arith), eq-eqb k (position - from) same) (eq-eqb (from + k) position (omega arith))
+      go (no other) = rw (ne-eqb (from + k) position (omega arith), ne-eqb k (position - from) other) (and-false (ltb k r))
 
-  pub miss : ((k : ℕ) → k < r → from + k ≡ position → ⊥) → a ≡ (λ k. a k || (ltb k r && eqb (from + k) position))
-  miss outside = fun-ext (λ k. sym (go k (decLt k r)))
+  pub miss : ((k : ℕ) → k < r → from + k ≡ position → ⊥) → (k : ℕ) → ltb k r && eqb (from + k) position ≡ false
+  miss outside k = go (decLt k r)
     where
-      go : (k : ℕ) → Dec (k < r) → a k || (ltb k r && eqb (from + k) position) ≡ a k
-      go k (yes within) = rw (lt-ltb k r within, ne-eqb (from + k) position (outside k within)) (or-false (a k))
-      go k (no past) = rw (le-ltb k r (omega arith)) (or-false (a k))
+      go : Dec (k < r) → ltb k r && eqb (from + k) position ≡ false
+      go (yes within) = rw (lt-ltb k r within) (ne-eqb (from + k) position (outside k within))
+      go (no past) = rw (le-ltb k r (omega arith))
 
 -- ---- the loop that puts in the positions of a list
 

@@ -1,4 +1,6 @@
 -- `put` sets one bit, or none.
+use mathlib.Core.Path.{sym, ap, fun-ext}
+use mathlib.Core.Bool.{Bool, _||_, or-false}
 use Prim.Native.Nat.{_-_, _/_, _%_}
 use native.Mathlib.Nat.{one-mul, div-add-mod'}
 use native.Mathlib.Omega.{arith}
@@ -10,7 +12,9 @@ use Rattle.exchange.proofs.error.put.Statement.{statement}
 use Rattle.exchange.proofs.error.put.Tie as tie
 
 returns : tie.Need-returns
-returns c = miss _ _ _ _ (λ k below at. omega arith)
+returns c =
+    let given = c .before .args in
+    fun-ext (λ k. sym (rw (miss (given .r) (given .from) (given .position) (λ j below at. omega arith) k) (or-false _)))
 
 returns-2 : tie.Need-returns-2
 returns-2 c =
@@ -22,10 +26,15 @@ returns-2 c =
       bits-set 8 (given .out .now) (k / 8) (k % 8) (omega arith) (omega arith),
       div-add-mod' k 8,
     )
-    (hit (given .r) (given .from) (given .position) (bits 8 (given .out .now)) (omega arith) (omega arith))
+    (fun-ext
+    (λ j.
+    ap (λ (t : Bool). bits 8 (given .out .now) j || t)
+    (sym (hit (given .r) (given .from) (given .position) (omega arith) (omega arith) j))))
 
 returns-3 : tie.Need-returns-3
-returns-3 c = miss _ _ _ _ (λ k below at. omega arith)
+returns-3 c =
+    let given = c .before .before .args in
+    fun-ext (λ k. sym (rw (miss (given .r) (given .from) (given .position) (λ j below at. omega arith) k) (or-false _)))
 
 pub put-spec : {M : Type 1} → statement M
 put-spec =

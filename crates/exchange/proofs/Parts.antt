@@ -1,0 +1,33 @@
+-- Parts of a list: what a buffer holds that was written in two parts, and a part of a part. Assumes nothing.
+use mathlib.Core.Path.{_≡_, ap, ap₂, _∙_}
+use mathlib.Core.List.{List, [], _++_, append-nil}
+use Prim.Native.Nat.{ℕ, _+_, _-_, _≤_}
+use native.Mathlib.Nat.{le-of-eq}
+use native.Mathlib.Omega.{arith}
+use lib.ListN.{length, take, drop, drop-of-length-le, length-drop, length-take}
+use lib.Seq.{length-take-le, take-all, take-at, drop-at, take-add}
+use Rattle.ring.specs.Bytes.{byteLength, bytesOf}
+use Rattle.ring.specs.Polynomials.{Poly}
+use Rattle.ring.proofs.Layouts.{bytesOf-length}
+
+-- the front, then all that follows it
+pub two-parts : (n : ℕ) (front rest old : List ℕ) → length front ≡ n →
+    let half = front ++ drop n old in
+    take n half ++ (rest ++ drop (length half - n) (drop n half)) ≡ front ++ rest
+two-parts n front rest old size =
+    let half = front ++ drop n old in
+    let none : drop (length half - n) (drop n half) ≡ [] = drop-of-length-le (drop n half) (le-of-eq (length-drop n half)) in
+    ap₂ _++_ (take-at front (drop n old) n size) (ap (_++_ rest) none ∙ append-nil rest)
+
+pub rest-all : (n : ℕ) (xs : List ℕ) → take (length xs - n) (drop n xs) ≡ drop n xs
+rest-all n xs = take-all (length xs - n) (drop n xs) (le-of-eq (length-drop n xs))
+
+pub drop-take : (n k : ℕ) (xs : List ℕ) → n ≤ length xs → drop n (take (n + k) xs) ≡ take k (drop n xs)
+drop-take n k xs within = rw (take-add n k xs) (drop-at (take n xs) (take k (drop n xs)) n (length-take-le n xs within))
+
+-- a list whose front holds the bytes of a polynomial is long enough, and so is its front
+pub front-room : (r : ℕ) (a : Poly) (xs : List ℕ) → take (byteLength r) xs ≡ bytesOf r a → byteLength r ≤ length xs
+front-room r a xs held = omega (arith, length-take (byteLength r) xs, ap length held ∙ bytesOf-length r a)
+
+pub front-long : (n : ℕ) {m : ℕ} (xs : List ℕ) → n ≡ m → m ≤ length xs → length (take n xs) ≡ n
+front-long n xs same room = length-take-le n xs (rw same room)

@@ -1,0 +1,283 @@
+-- `decode` goes down document 01's column, and gives the decoder's error where no number applies.
+use mathlib.Core.Path.{_≡_, sym, ap, ap₂, _∙_}
+use mathlib.Core.Bool.{_&&_}
+use mathlib.Core.List.{List, [], _∷_}
+use Prim.Native.Nat.{ℕ}
+use native.Mathlib.Omega.{arith}
+use lib.ListN.{length}
+use borrow.Author.Needs.{needs}
+use borrow.Author.Tests.{not-false}
+use Rattle.hashing.specs.Answers.{firstOf, content, settle}
+use Rattle.hashing.specs.Answers.Outcome.{gives}
+use Rattle.hashing.specs.Lists.{bits}
+use Rattle.ring.specs.Bytes.{listOf, bytesOf, byteLength, padSet}
+use Rattle.ring.specs.Levels.{levelOf, polyBytes, privateBytes}
+use Rattle.ring.specs.Polynomials.{Poly, InRing}
+use Rattle.ring.proofs.Layouts.{pad-rule}
+use Rattle.exchange.specs.Decoder.{decoded, failed}
+use Rattle.exchange.specs.Opening.{secret, risingFrom, goodKey}
+use Rattle.exchange.specs.Promises.{differs, decode-says}
+use Rattle.exchange.specs.Scheme.{Pair, support}
+use Rattle.exchange.specs.Working.{keyOf}
+use Rattle.exchange.proofs.Bools.{both-true, both-false, agree}
+use Rattle.exchange.proofs.Levels.{sizes}
+use Rattle.exchange.proofs.decoder.Laws.{pair-path}
+use Rattle.exchange.proofs.decode.Statement.{statement}
+use Rattle.exchange.proofs.decode.Tie as tie
+
+returns : tie.Need-returns
+unfolding decode-says settle firstOf content
+returns c =
+    let refused = c .before .before .before .before in
+    let tested = refused .before .before .before in
+    rw (
+      ← tested .before .known .ensures,
+      tested .if1 .taken,
+      refused .refuse .ensures .0,
+      refused .refuse .ensures .1,
+      refused .refuse .ensures .2,
+    )
+
+returns-2 : tie.Need-returns-2
+unfolding decode-says settle firstOf content differs
+returns-2 c =
+    let refused = c .before .before .before .before in
+    let tested = refused .before .before .before in
+    let level = tested .before .before .before in
+    rw (
+      ← level .before .known .ensures,
+      level .if1 .left,
+      ← tested .before .private-key .ensures,
+      ← tested .before .before .polynomial .ensures,
+      tested .if2 .taken,
+      refused .refuse2 .ensures .0,
+      refused .refuse2 .ensures .1,
+      refused .refuse2 .ensures .2,
+    )
+
+-- the lengths that the second test leaves
+lengths : (c : tie.Else2) →
+    let given = c .before .before .before .before .before .before .before .before .before .args in
+    let l = levelOf (given .level) in
+    (length (given .private-key .now) ≡ privateBytes l) × (length (given .syndrome .now) ≡ polyBytes l)
+    × (length (given .e0 .now) ≡ polyBytes l) × (length (given .e1 .now) ≡ polyBytes l)
+unfolding differs
+lengths c =
+    let three = both-false _ _ (c .if2 .left) in
+    let two = both-false _ _ (three .0) in
+    let one = both-false _ _ (two .0) in
+    let n = c .before .before .polynomial .ensures in
+    (agree _ _ (one .0) ∙ c .before .private-key .ensures, agree _ _ (one .1) ∙ n, agree _ _ (two .1) ∙ n, agree _ _ (three .1) ∙ n)
+
+pad-set-requires : tie.Need-pad-set-requires
+pad-set-requires c κs = lengths (c .before) .1 ∙ ap byteLength (sym (c .block .ensures))
+
+returns-3 : tie.Need-returns-3
+unfolding decode-says settle firstOf content differs
+returns-3 c =
+    let refused = c .before .before .before .before in
+    let tested = refused .before .before .before in
+    let long = tested .before .before .before in
+    let level = long .before .before .before in
+    rw (
+      ← level .before .known .ensures,
+      level .if1 .left,
+      ← long .before .private-key .ensures,
+      ← long .before .before .polynomial .ensures,
+      long .if2 .left,
+      ← tested .before .before .block .ensures,
+      ← tested .before .pad-set .ensures,
+      tested .if3 .taken,
+      refused .refuse3 .ensures .0,
+      refused .refuse3 .ensures .1,
+      refused .refuse3 .ensures .2,
+    )
+
+pad-is : (c : tie.After-pad-set) →
+    let given = c .before .before .before .before .before .before .before .before .before .before .before .args in c .pad-set .result ≡ padSet (levelOf (given .level) .r) (given .syndrome .now)
+pad-is c = rw (c .before .block .ensures) at (c .pad-set .ensures)
+
+-- no pad bit is set: the bytes are those of a polynomial of the ring
+inside : (c : tie.Else3) →
+    let given = c .before .before .before .before .before .before .before .before .before .before .before .before .args in InRing (levelOf (given .level) .r) (bits 8 (given .syndrome .now))
+inside c =
+    let long = c .before .before .before in
+    pad-rule _ _ (lengths long .1) (λ i. long .before .before .before .before .before .before .before .shared-slice-known2 .given i .fits) .0 (sym (pad-is (c .before)) ∙ c .if3 .left)
+
+read-key-requires : tie.Need-read-key-requires
+read-key-requires c κs = lengths (c .before .before .before) .0
+
+-- what the fourth test tests
+good-is : (c : tie.After-is-good) →
+    let given = c .before .before .before .before .before .before .before .before .before .before .before .before .before .before .args in
+    c .is-good .result ≡ goodKey (levelOf (given .level)) (given .private-key .now)
+unfolding goodKey
+good-is c =
+    let given = c .before .before .before .before .before .before .before .before .before .before .before .before .before .before .args in
+    let r = levelOf (given .level) .r in
+    let read = c .before .read-key .ensures in
+    c .is-good .ensures ∙ ap₂ (λ (a b : List ℕ). risingFrom r 0 a && risingFrom r 0 b) (read .0 .1) (read .1 .1)
+
+returns-4 : tie.Need-returns-4
+unfolding decode-says settle firstOf content differs
+returns-4 c =
+    let refused = c .before .before .before .before in
+    let tested = refused .before .before .before in
+    let padded = tested .before .before .before in
+    let long = padded .before .before .before in
+    let level = long .before .before .before in
+    rw (
+      ← level .before .known .ensures,
+      level .if1 .left,
+      ← long .before .private-key .ensures,
+      ← long .before .before .polynomial .ensures,
+      long .if2 .left,
+      ← pad-is (padded .before),
+      padded .if3 .left,
+      ← good-is (tested .before),
+      tested .if4 .taken,
+      refused .refuse4 .ensures .0,
+      refused .refuse4 .ensures .1,
+      refused .refuse4 .ensures .2,
+    )
+
+load-requires : tie.Need-load-requires
+load-requires c κs =
+    let long = c .before .before .before .before .before .before in
+    omega (arith, lengths long .1, sizes (long .before .before .before .before .before .before .before .before .before .args .level))
+
+decoded-requires : tie.Need-decoded-requires
+decoded-requires c κs =
+    let tested = c .before in
+    let read = tested .before .before .read-key .ensures in
+    let rise = both-true _ _ (sym (tested .before .is-good .ensures) ∙ not-false _ (tested .if4 .left)) in
+    (((read .0 .0, rise .0), (read .1 .0, rise .1)), rw (c .load .ensures) (inside (tested .before .before .before)))
+
+-- the key that was read is the secret
+key-is : (c : tie.After-read-key) →
+    let given = c .before .before .before .before .before .before .before .before .before .before .before .before .before .args in
+    keyOf (levelOf (given .level)) (c .read-key .result) ≡ secret (levelOf (given .level)) (given .private-key .now)
+unfolding secret
+key-is c = pair-path (ap support (c .read-key .ensures .0 .1)) (ap support (c .read-key .ensures .1 .1))
+
+failed-is : (c : tie.After-decoded) →
+    let given = c .before .before .before .before .before .before .before .before .before .before .before .before .before .before .before .before .before .args in
+    let l = levelOf (given .level) in
+    c .decoded .result .failed ≡ failed l (secret l (given .private-key .now)) (bits 8 (given .syndrome .now))
+failed-is c =
+    let l = levelOf (c .before .before .before .before .before .before .before .before .before .before .before .before .before .before .before .before .before .args .level) in
+    c .decoded .ensures .0 ∙ ap₂ (failed l) (key-is (c .before .before .before .before)) (c .before .load .ensures)
+
+found-is : (c : tie.After-decoded) →
+    let given = c .before .before .before .before .before .before .before .before .before .before .before .before .before .before .before .before .before .args in
+    let l = levelOf (given .level) in
+    let e = decoded l (secret l (given .private-key .now)) (bits 8 (given .syndrome .now)) in
+    (bits 64 (c .decoded .result .e0) ≡ e .half0) × (bits 64 (c .decoded .result .e1) ≡ e .half1)
+found-is c =
+    let l = levelOf (c .before .before .before .before .before .before .before .before .before .before .before .before .before .before .before .before .before .args .level) in
+    let h = key-is (c .before .before .before .before) in
+    let s = c .before .load .ensures in (
+      c .decoded .ensures .1 ∙ ap₂ (λ (h : Pair) (s : Poly). decoded l h s .half0) h s,
+      c .decoded .ensures .2 ∙ ap₂ (λ (h : Pair) (s : Poly). decoded l h s .half1) h s,
+    )
+
+returns-5 : tie.Need-returns-5
+unfolding decode-says settle firstOf content differs
+returns-5 c =
+    let refused = c .before .before .before .before in
+    let tested = refused .before .before .before in
+    let good = tested .before .before .before in
+    let padded = good .before .before .before in
+    let long = padded .before .before .before in
+    let level = long .before .before .before in
+    rw (
+      ← level .before .known .ensures,
+      level .if1 .left,
+      ← long .before .private-key .ensures,
+      ← long .before .before .polynomial .ensures,
+      long .if2 .left,
+      ← pad-is (padded .before),
+      padded .if3 .left,
+      ← good-is (good .before),
+      good .if4 .left,
+      ← failed-is (tested .before),
+      tested .if5 .taken,
+      refused .refuse5 .ensures .0,
+      refused .refuse5 .ensures .1,
+      refused .refuse5 .ensures .2,
+    )
+
+store-requires : tie.Need-store-requires
+store-requires c κs =
+    let long = c .before .before .before .before .before .before .before .before .before .before .before .before in
+    omega (arith, lengths long .2, sizes (long .before .before .before .before .before .before .before .before .before .args .level))
+
+store-requires-2 : tie.Need-store-requires-2
+store-requires-2 c κs =
+    let long = c .before .before .before .before .before .before .before .before .before .before .before .before .before .before .before .before in
+    omega (arith, lengths long .3, sizes (long .before .before .before .before .before .before .before .before .before .args .level))
+
+returns-6 : tie.Need-returns-6
+unfolding decode-says settle firstOf content differs bytesOf
+returns-6 c =
+    let tested = c .before .before .before .before .before .before .before .before .before .before in
+    let good = tested .before .before .before in
+    let padded = good .before .before .before in
+    let long = padded .before .before .before in
+    let level = long .before .before .before in
+    let value = found-is (tested .before) in
+    rw (
+      ← level .before .known .ensures,
+      level .if1 .left,
+      ← long .before .private-key .ensures,
+      ← long .before .before .polynomial .ensures,
+      long .if2 .left,
+      ← pad-is (padded .before),
+      padded .if3 .left,
+      ← good-is (good .before),
+      good .if4 .left,
+      ← failed-is (tested .before),
+      tested .if5 .left,
+    )
+    (ap₂ (λ (a b : List ℕ). gives 0 (a ∷ b ∷ []))
+    (c .before .before .before .before .before .before .store .ensures ∙ ap₂ (listOf 8) (lengths long .2 ∙ sym (long .before .before .polynomial .ensures)) (value .0))
+    (c .before .before .store2 .ensures ∙ ap₂ (listOf 8) (lengths long .3 ∙ sym (long .before .before .polynomial .ensures)) (value .1)))
+
+pub decode-spec : {M : Type 1} → statement M
+decode-spec =
+    tie.close
+    (tie.spec
+    (λ c κs. search needs)
+    (λ c κs. search needs)
+    (λ c. search needs)
+    (λ c. search needs)
+    returns
+    (λ c κs. search needs)
+    (λ c κs. search needs)
+    (λ c κs. search needs)
+    (λ c. search needs)
+    (λ c. search needs)
+    returns-2
+    (λ c κs. search needs)
+    pad-set-requires
+    (λ c κs. search needs)
+    (λ c. search needs)
+    (λ c. search needs)
+    returns-3
+    read-key-requires
+    (λ c κs. search needs)
+    (λ c κs. search needs)
+    (λ c. search needs)
+    (λ c. search needs)
+    returns-4
+    load-requires
+    decoded-requires
+    (λ c κs. search needs)
+    (λ c. search needs)
+    (λ c. search needs)
+    returns-5
+    store-requires
+    store-requires-2
+    (λ c. search needs)
+    (λ c. search needs)
+    returns-6)

@@ -1,0 +1,184 @@
+// Key making: two sparse polynomials from a seed, the quotient that is public, and the positions that are kept.
+use crate::bytes;
+use crate::error;
+use crate::refuse;
+use crate::sampler;
+use crate::size;
+use hashing::sponge;
+use ring::WORDS;
+use ring::invert;
+use ring::multiply;
+use ring::positions;
+use ring::words;
+ghost use mathlib.Core.Path.{_≡_};
+ghost use mathlib.Core.Bool.{true};
+ghost use mathlib.Core.List.{[], _∷_, _++_};
+ghost use Prim.Native.Nat.{_+_, _*_, _≤_};
+ghost use lib.ListN.{length, take};
+ghost use Rattle.hashing.specs.Answers.Outcome.{gives};
+ghost use Rattle.hashing.specs.Lists.{bits};
+ghost use Rattle.ring.specs.Levels.{known, levelOf, polyBytes, privateBytes};
+ghost use Rattle.ring.specs.Polynomials;
+ghost use Rattle.ring.specs.Polynomials.{InRing, weight};
+ghost use Rattle.exchange.specs.Promises.{seedBytes, make-key-says};
+ghost use Rattle.exchange.specs.Sampler.{numbers, sampleKey};
+ghost use Rattle.exchange.specs.Scheme.{support, keyStream, h0Of, h1Of, sigmaOf, twoBytes, privateKey};
+
+// Room for the largest level: the words of both halves, and one half as positions and as exponents.
+fn no_words() -> [u8; 824]
+    ensures { λ r. ⌜ 824 ≡ length r ⌝ }
+{
+    [0; 824]
+}
+
+fn no_positions() -> [u32; 103]
+    ensures { λ r. ⌜ 103 ≡ length r ⌝ }
+{
+    [0; 103]
+}
+
+fn no_exponents() -> [u16; 103]
+    ensures { λ r. ⌜ 103 ≡ length r ⌝ }
+{
+    [0; 103]
+}
+
+// The stream of the seed's first half: 8d bytes.
+fn stream(level: u32, seed: &[u8]) -> [u8; 824]
+    requires { ⌜ 32 ≤ length (now seed) ⌝ }
+    ensures { λ r. ⌜ take (8 * levelOf level .d) r ≡ keyStream (levelOf level) (now (seed .entry)) ⌝ }
+{
+    let n = 8 * size::key_weight(level);
+    let mut words = no_words();
+    sponge::digest(
+        sponge::SHAKE256_RATE,
+        sponge::SHAKE256_SUFFIX,
+        &seed[..32],
+        &mut words[..n],
+    );
+    words
+}
+
+// The d positions of one half, at the front of the list.
+fn sampled(level: u32, stream: &[u8]) -> [u32; 103]
+    requires { ⌜ 4 * levelOf level .d ≤ length (now stream) ⌝ }
+    ensures { λ r. ⌜ take (levelOf level .d) r
+        ≡ sampleKey (levelOf level .r) (levelOf level .d) (numbers 4 (levelOf level .d) (now (stream .entry))) ⌝ }
+{
+    let d = size::key_weight(level);
+    let mut list = no_positions();
+    sampler::sample(size::block(level) as u32, stream, &mut list[..d]);
+    list
+}
+
+// One half in words, from the front of a stream.
+fn half(level: u32, stream: &[u8]) -> [u64; WORDS]
+    requires { ⌜ 4 * levelOf level .d ≤ length (now stream) ⌝ }
+    ensures { λ h. ⌜ bits 64 h
+        ≡ support (sampleKey (levelOf level .r) (levelOf level .d) (numbers 4 (levelOf level .d) (now (stream .entry)))) ⌝ }
+{
+    let d = size::key_weight(level);
+    let n = size::polynomial(level);
+    let list = sampled(level, stream);
+    let mut bytes = error::no_bytes();
+    error::place(&list[..d], size::block(level) as u32, 0, &mut bytes[..n]);
+    words::load(&bytes[..n])
+}
+
+pub struct Halves {
+    pub h0: [u64; WORDS],
+    pub h1: [u64; WORDS],
+}
+
+// h0 from the first 4d bytes of the stream, h1 from the next 4d.
+fn both_halves(level: u32, seed: &[u8]) -> Halves
+    requires { ⌜ 32 ≤ length (now seed) ⌝ }
+    ensures { λ h. ⌜ (bits 64 (h .h0) ≡ h0Of (levelOf level) (now (seed .entry)))
+        × (bits 64 (h .h1) ≡ h1Of (levelOf level) (now (seed .entry))) ⌝ }
+{
+    let n = 8 * size::key_weight(level);
+    let middle = n / 2;
+    let words = stream(level, seed);
+    Halves {
+        h0: half(level, &words[..n]),
+        h1: half(level, &words[middle..n]),
+    }
+}
+
+// The exponents of a half, at the front of the list.
+fn exponents(level: u32, h: [u64; WORDS]) -> [u16; 103]
+    requires { ⌜ InRing (levelOf level .r) (bits 64 h) ⌝ ∗ ⌜ weight (levelOf level .r) (bits 64 h) ≡ levelOf level .d ⌝ }
+    ensures { λ p. ⌜ take (levelOf level .d) p ≡ Polynomials.rising (levelOf level .r) (bits 64 h) ⌝ }
+{
+    let mut list = no_exponents();
+    positions::rising(size::block(level), h, &mut list);
+    list
+}
+
+fn write_numbers(list: &[u16], out: &mut [u8])
+    requires { ⌜ length (now out) ≡ 2 * length (now list) ⌝ }
+    ensures { λ _. ⌜ now (out .exit) ≡ twoBytes (now (list .entry)) ⌝ }
+{
+    let mut i = 0;
+    while i < list.len() {
+        let p = list[i];
+        out[2 * i] = (p % 256) as u8;
+        out[2 * i + 1] = (p / 256) as u8;
+        i += 1;
+    }
+}
+
+fn write_half(level: u32, h: [u64; WORDS], out: &mut [u8])
+    requires { ⌜ length (now out) ≡ 2 * levelOf level .d ⌝
+        ∗ ⌜ InRing (levelOf level .r) (bits 64 h) ⌝ ∗ ⌜ weight (levelOf level .r) (bits 64 h) ≡ levelOf level .d ⌝ }
+    ensures { λ _. ⌜ now (out .exit) ≡ twoBytes (Polynomials.rising (levelOf level .r) (bits 64 h)) ⌝ }
+{
+    let d = size::key_weight(level);
+    let list = exponents(level, h);
+    write_numbers(&list[..d], out);
+}
+
+// The second half, then sigma.
+fn write_rest(level: u32, h: [u64; WORDS], sigma: &[u8], out: &mut [u8])
+    requires { ⌜ length (now out) ≡ 2 * levelOf level .d + length (now sigma) ⌝
+        ∗ ⌜ InRing (levelOf level .r) (bits 64 h) ⌝ ∗ ⌜ weight (levelOf level .r) (bits 64 h) ≡ levelOf level .d ⌝ }
+    ensures { λ _. ⌜ now (out .exit) ≡ twoBytes (Polynomials.rising (levelOf level .r) (bits 64 h)) ++ now (sigma .entry) ⌝ }
+{
+    let n = 2 * size::key_weight(level);
+    write_half(level, h, &mut out[..n]);
+    bytes::copy(sigma, &mut out[n..]);
+}
+
+fn write_private(level: u32, seed: &[u8], h: Halves, out: &mut [u8])
+    requires { ⌜ (length (now seed) ≡ seedBytes) × (length (now out) ≡ privateBytes (levelOf level)) ⌝
+        ∗ ⌜ (bits 64 (h .h0) ≡ h0Of (levelOf level) (now seed)) × (bits 64 (h .h1) ≡ h1Of (levelOf level) (now seed)) ⌝ }
+    ensures { λ _. ⌜ now (out .exit) ≡ privateKey (levelOf level .r)
+        (h0Of (levelOf level) (now (seed .entry))) (h1Of (levelOf level) (now (seed .entry))) (sigmaOf (now (seed .entry))) ⌝ }
+{
+    let n = 2 * size::key_weight(level);
+    let h0 = h.h0;
+    let h1 = h.h1;
+    write_half(level, h0, &mut out[..n]);
+    write_rest(level, h1, &seed[32..], &mut out[n..]);
+}
+
+// Key making for buffers of the level's lengths.
+pub fn make(level: u32, seed: &[u8], public_key: &mut [u8], private_key: &mut [u8]) -> u32
+    requires { ⌜ (known level ≡ true) × (length (now seed) ≡ seedBytes)
+        × (length (now «public_key») ≡ polyBytes (levelOf level)) × (length (now «private_key») ≡ privateBytes (levelOf level)) ⌝ }
+    ensures { λ r. ⌜ gives r (now («public_key» .exit) ∷ now («private_key» .exit) ∷ [])
+        ≡ make-key-says level (now (seed .entry)) (length (now («public_key» .entry))) (length (now («private_key» .entry))) ⌝ }
+{
+    let r = size::block(level);
+    let h = both_halves(level, seed);
+    let h0 = h.h0;
+    let h1 = h.h1;
+    let inverse = invert::invert(r, h0);
+    if !inverse.exists {
+        return refuse(5, public_key, private_key);
+    }
+    let value = inverse.value;
+    words::store(multiply::multiply(r, h1, value), public_key);
+    write_private(level, seed, h, private_key);
+    0
+}

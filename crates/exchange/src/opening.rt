@@ -1,0 +1,104 @@
+// Opening: the session key of a ciphertext, from the error that was found in it.
+use crate::bytes;
+use crate::digest::digest32;
+use crate::digest::no_digest;
+use crate::error;
+use crate::size;
+use crate::wrapping;
+use ring::WORDS;
+use ring::words;
+ghost use mathlib.Core.Path.{_≡_};
+ghost use mathlib.Core.Bool.{true, false};
+ghost use mathlib.Core.List.{_++_};
+ghost use Prim.Native.Nat.{_≤_};
+ghost use lib.ListN.{length, take, drop};
+ghost use Rattle.hashing.specs.Lists.{bits};
+ghost use Rattle.hashing.specs.Sponge.{sha3-384};
+ghost use Rattle.ring.specs.Bytes.{bytesOf};
+ghost use Rattle.ring.specs.Levels.{levelOf, messageBytes, polyBytes, ciphertextBytes};
+ghost use Rattle.ring.specs.Polynomials.{InRing, Tells};
+ghost use Rattle.exchange.specs.Scheme.{xorBytes};
+ghost use Rattle.exchange.specs.Session.{either, errorIn, keyFor};
+
+// An error's bytes, each half at the front of its array.
+fn stored(level: u32, e0: [u64; WORDS], e1: [u64; WORDS]) -> error::Halves
+    ensures { λ e. ⌜ (take (polyBytes (levelOf level)) (e .e0) ≡ bytesOf (levelOf level .r) (bits 64 e0))
+        × (take (polyBytes (levelOf level)) (e .e1) ≡ bytesOf (levelOf level .r) (bits 64 e1)) ⌝ }
+{
+    let n = size::polynomial(level);
+    let mut b0 = error::no_bytes();
+    let mut b1 = error::no_bytes();
+    words::store(e0, &mut b0[..n]);
+    words::store(e1, &mut b1[..n]);
+    error::Halves { e0: b0, e1: b1 }
+}
+
+// m' = c1 xor L(e')
+fn message_of(level: u32, e: error::Halves, ciphertext: &[u8]) -> [u8; 32]
+    requires { ⌜ length (now ciphertext) ≡ ciphertextBytes (levelOf level) ⌝
+        ∗ ⌜ (polyBytes (levelOf level) ≤ length (e .e0)) × (polyBytes (levelOf level) ≤ length (e .e1)) ⌝ }
+    ensures { λ m. ⌜ m ≡ xorBytes (drop (polyBytes (levelOf level)) (now (ciphertext .entry)))
+        (take messageBytes (sha3-384 (take (polyBytes (levelOf level)) (e .e0) ++ take (polyBytes (levelOf level)) (e .e1)))) ⌝ }
+{
+    let n = size::polynomial(level);
+    let e0 = e.e0;
+    let e1 = e.e1;
+    let pad = digest32(&e0[..n], &e1[..n]);
+    let mut m = no_digest();
+    bytes::xor(&ciphertext[n..], &pad, &mut m);
+    m
+}
+
+// Both halves are compared in every byte.
+fn same_error(level: u32, e: error::Halves, f: error::Halves) -> bool
+    requires { ⌜ (polyBytes (levelOf level) ≤ length (e .e0)) × (polyBytes (levelOf level) ≤ length (e .e1))
+        × (polyBytes (levelOf level) ≤ length (f .e0)) × (polyBytes (levelOf level) ≤ length (f .e1)) ⌝ }
+    ensures { λ t. ⌜ Tells t ((take (polyBytes (levelOf level)) (e .e0) ≡ take (polyBytes (levelOf level)) (f .e0))
+        × (take (polyBytes (levelOf level)) (e .e1) ≡ take (polyBytes (levelOf level)) (f .e1))) ⌝ }
+{
+    let n = size::polynomial(level);
+    let e0 = e.e0;
+    let e1 = e.e1;
+    let f0 = f.e0;
+    let f1 = f.e1;
+    let same0 = bytes::same(&e0[..n], &f0[..n]);
+    let same1 = bytes::same(&e1[..n], &f1[..n]);
+    same0 & same1
+}
+
+fn mask_of(own: bool) -> u8
+    ensures { λ mask. ⌜ (own ≡ true → mask ≡ 255) × (own ≡ false → mask ≡ 0) ⌝ }
+{
+    if own { 255 } else { 0 }
+}
+
+// m' where it was the sender's own, else sigma.
+fn chosen(own: bool, m: [u8; 32], sigma: &[u8]) -> [u8; 32]
+    requires { ⌜ (length m ≡ messageBytes) × (length (now sigma) ≡ messageBytes) ⌝ }
+    ensures { λ r. ⌜ r ≡ either own m (now (sigma .entry)) ⌝ }
+{
+    let mut out = no_digest();
+    bytes::choose(mask_of(own), &m, sigma, &mut out);
+    out
+}
+
+// The session key that goes with an error: of m' where the error is that of m', else of sigma.
+pub fn write_session_key(
+    level: u32,
+    e0: [u64; WORDS],
+    e1: [u64; WORDS],
+    sigma: &[u8],
+    ciphertext: &[u8],
+    out: &mut [u8],
+)
+    requires { ⌜ (length (now sigma) ≡ messageBytes) × (length (now ciphertext) ≡ ciphertextBytes (levelOf level)) × (length (now out) ≡ messageBytes) ⌝
+        ∗ ⌜ InRing (levelOf level .r) (bits 64 e0) ⌝ ∗ ⌜ InRing (levelOf level .r) (bits 64 e1) ⌝ }
+    ensures { λ _. ⌜ now (out .exit) ≡ keyFor (levelOf level) (now (sigma .entry)) (now (ciphertext .entry)) (errorIn e0 e1) ⌝ }
+{
+    let e = stored(level, e0, e1);
+    let m = message_of(level, e, ciphertext);
+    let again = error::halves_of(level, &m);
+    let own = same_error(level, e, again);
+    let secret = chosen(own, m, sigma);
+    wrapping::write_key(&secret, ciphertext, out);
+}
