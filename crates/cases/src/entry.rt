@@ -1,0 +1,155 @@
+// One case: its buffers are read one after the other, the entry is called, and the line is printed.
+use crate::buffer::MOST;
+use crate::buffer::blank;
+use crate::buffer::mark;
+use crate::buffer::read;
+use crate::buffer::size;
+use exchange::record::Line;
+use libc::STDOUT_FILENO;
+
+// How many inputs and outputs an entry has; no inputs where the number is no entry's.
+fn inputs(number: u8) -> u8 {
+    match number {
+        1 | 2 | 4 | 5 | 7 | 10 => 1,
+        3 | 6 | 8 => 2,
+        _ => 0,
+    }
+}
+
+fn outputs(number: u8) -> u8 {
+    match number {
+        1 | 2 | 3 | 4 => 1,
+        5 | 6 | 7 | 8 => 2,
+        _ => 0,
+    }
+}
+
+fn called(number: u8, level: u32, a: &[u8], b: &[u8], out0: &mut [u8], out1: &mut [u8]) -> u32 {
+    match number {
+        1 => hashing::shake256(a, out0),
+        2 => hashing::sha3_384(a, out0),
+        3 => ring::product(level, a, b, out0),
+        4 => ring::inverse(level, a, out0),
+        5 => exchange::error_of(level, a, out0, out1),
+        6 => exchange::decode(level, a, b, out0, out1),
+        7 => exchange::make_key(level, a, out0, out1),
+        _ => exchange::wrap(level, a, b, out0, out1),
+    }
+}
+
+fn print_field(n: u64) {
+    io::write_all(STDOUT_FILENO, b" ");
+    io::print_decimal(STDOUT_FILENO, n);
+}
+
+fn print_out(out: &[u8]) {
+    io::write_all(STDOUT_FILENO, b" ");
+    if out.len() == 0 {
+        io::write_all(STDOUT_FILENO, b"-");
+        return;
+    }
+    lines::print_hex(out);
+}
+
+fn print_values(line: Line) {
+    print_field(line.answer as u64);
+    print_field(line.level as u64);
+    print_field(line.thing as u64);
+    print_field(line.body as u64);
+}
+
+// `line_at` lists from a place where there is a byte: no byte at all is a record that is cut.
+fn print_record(bytes: &[u8]) {
+    if bytes.len() == 0 {
+        print_values(Line {
+            answer: 7,
+            level: 0,
+            thing: 0,
+            body: 0,
+            next: 0,
+        });
+        return;
+    }
+    print_values(exchange::record::line_at(bytes, 0));
+}
+
+// The answer of an entry with outputs, and what they hold.
+fn print_answer(number: u8, level: u32, a: &[u8], b: &[u8], out0: &mut [u8], out1: &mut [u8]) {
+    mark(out0);
+    mark(out1);
+    let answer = called(number, level, a, b, out0, out1);
+    print_field(answer as u64);
+    print_out(out0);
+    if outputs(number) == 2 {
+        print_out(out1);
+    }
+}
+
+fn print_line(
+    ordinal: u64,
+    number: u8,
+    level: u32,
+    a: &[u8],
+    b: &[u8],
+    out0: &mut [u8],
+    out1: &mut [u8],
+) {
+    io::print_decimal(STDOUT_FILENO, ordinal);
+    print_field(number as u64);
+    if number == 10 {
+        print_record(a);
+        return;
+    }
+    print_answer(number, level, a, b, out0, out1);
+}
+
+// The four steps below each read one length and lend a part of that length on. False where the case is cut or a buffer is too large.
+fn with_output1(ordinal: u64, number: u8, level: u32, a: &[u8], b: &[u8], out0: &mut [u8]) -> bool {
+    let mut out1 = blank();
+    let n = size(outputs(number) == 2);
+    if MOST < n {
+        return false;
+    }
+    print_line(ordinal, number, level, a, b, out0, &mut out1[..n]);
+    io::write_all(STDOUT_FILENO, b"\n")
+}
+
+fn with_output0(ordinal: u64, number: u8, level: u32, a: &[u8], b: &[u8]) -> bool {
+    let mut out0 = blank();
+    let n = size(outputs(number) > 0);
+    if MOST < n {
+        return false;
+    }
+    with_output1(ordinal, number, level, a, b, &mut out0[..n])
+}
+
+fn with_input1(ordinal: u64, number: u8, level: u32, a: &[u8], b: &mut [u8]) -> bool {
+    if !read(b) {
+        return false;
+    }
+    with_output0(ordinal, number, level, a, b)
+}
+
+fn with_input0(ordinal: u64, number: u8, level: u32, a: &mut [u8]) -> bool {
+    if !read(a) {
+        return false;
+    }
+    let mut b = blank();
+    let n = size(inputs(number) == 2);
+    if MOST < n {
+        return false;
+    }
+    with_input1(ordinal, number, level, a, &mut b[..n])
+}
+
+pub fn answered(ordinal: u64, number: u8, level: u32) -> bool {
+    if inputs(number) == 0 {
+        return false;
+    }
+    let mut a = blank();
+    let n = size(true);
+    if MOST < n {
+        return false;
+    }
+    with_input0(ordinal, number, level, &mut a[..n])
+}
