@@ -23,11 +23,12 @@ use Rattle.ring.proofs.Inverses.{same-equal}
 use Rattle.ring.proofs.Layouts.{bytesOf-length, bytesOf-bits, pad-rule}
 use Rattle.ring.proofs.Parity.{flip-self, flip-false}
 use Rattle.ring.proofs.Ring
-use Rattle.exchange.proofs.Bools.{both-true}
-use Rattle.exchange.specs.Decoder.{nothing, residual, reaching, among, flipped, black, round, maskedStep, firstRound, after, decoded, failed}
+use Rattle.ring.proofs.Bools.{both-true}
+use Rattle.decoder.specs.Decoder.{nothing, residual, reaching, among, flipped, black, round, maskedStep, firstRound, after, decoded, failed, found, Pair}
 use Rattle.exchange.specs.Fits.{Bytes, WellFormed, Fits}
-use Rattle.exchange.specs.Opening.{secret, syndromeOf, sigma, found, messageOf, sameError, opened}
-use Rattle.exchange.specs.Scheme.{Pair, hashH, hashL, hashK, split, xorBytes, wrapped}
+use Rattle.decoder.specs.PrivateKey.{secret, sigma}
+use Rattle.exchange.specs.Opening.{syndromeOf, messageOf, sameError, opened}
+use Rattle.exchange.specs.Scheme.{hashH, hashL, hashK, split, xorBytes, wrapped}
 
 -- exclusive or with the same bytes twice
 pub xor-twice : (a b : List ℕ) → length a ≡ messageBytes → xorBytes (xorBytes a b) b ≡ a

@@ -7,10 +7,11 @@ use native.Mathlib.Omega.{arith}
 use borrow.Author.Tests.{lt-ltb, le-ltb}
 use Rattle.hashing.specs.Sponge.{shake256}
 use Rattle.ring.specs.Levels.{Level, levelOf}
-use Rattle.ring.specs.Polynomials.{InRing, weight}
-use Rattle.exchange.specs.Sampler.{listed, numbers, sampleError}
+use Rattle.ring.specs.Polynomials.{InRing, weight, listed}
+use Rattle.ring.specs.Bytes.{numbers}
+use Rattle.exchange.specs.Sampler.{sampleError}
 use Rattle.exchange.specs.Scheme.{split, errorPositions, hashH}
-use Rattle.exchange.proofs.Levels.{sizes}
+use Rattle.ring.proofs.Levels.{sizes}
 use Rattle.exchange.proofs.Streams.{shake256-below, words-below}
 use Rattle.ring.proofs.Weights.{weight-ext, weight-add}
 use Rattle.exchange.proofs.sampler.Laws.{sample-weight}

@@ -1,7 +1,6 @@
-pub mod Bools
 pub mod Demand
 pub mod Errors
-pub mod Levels
+pub mod Lengths
 pub mod Making
 pub mod Pairs
 pub mod Parts

@@ -12,12 +12,12 @@ use lib.ListN.{length, getD, take, drop, length-append}
 use lib.Seq.{drop-at, ext-getD}
 use Rattle.hashing.specs.Lists.{tab}
 use Rattle.hashing.proofs.Lists.{length-tab, getD-tab}
-use Rattle.ring.specs.Polynomials.{Poly, InRing, rising, weight, bit}
-use Rattle.exchange.proofs.Bools.{both-true}
-use Rattle.exchange.specs.Sampler.{littleEndian, numbers, listed}
+use Rattle.ring.specs.Polynomials.{Poly, InRing, rising, weight, bit, listed, support}
+use Rattle.ring.proofs.Bools.{both-true}
+use Rattle.ring.specs.Bytes.{littleEndian, numbers}
 use Rattle.ring.specs.Levels.{Level}
-use Rattle.exchange.specs.Opening.{positions0, positions1, sigma, secret, risingFrom}
-use Rattle.exchange.specs.Scheme.{support, twoBytes, privateKey}
+use Rattle.decoder.specs.PrivateKey.{positions0, positions1, sigma, secret, risingFrom}
+use Rattle.exchange.specs.Scheme.{twoBytes, privateKey}
 
 -- two bytes read back
 two-back : (p : ℕ) (rest : List ℕ) → littleEndian (take 2 (p % 256 ∷ p / 256 ∷ rest)) ≡ p

@@ -14,21 +14,22 @@ use Rattle.ring.specs.Levels.{Level, known, levelOf, messageBytes, polyBytes, p
 use Rattle.ring.specs.Polynomials.{InRing, same, weight, hasInverse, inverseOf}
 use Rattle.ring.proofs.Inverses.{inverse-found, same-true}
 use Rattle.ring.proofs.Layouts.{bits-bytesOf, bytesOf-length, bytesOf-below, pad-rule}
-use Rattle.ring.proofs.Levels.{r-pos}
+use Rattle.ring.proofs.Levels.{r-pos, sizes}
 use Rattle.ring.proofs.Ring.{mul-in}
 use Rattle.ring.proofs.Weights.{weight-ext, weight-none}
 use Rattle.ring.specs.Bytes.{bytesOf, padSet}
-use Rattle.exchange.proofs.Bools.{both-true, both-false, agree}
+use Rattle.ring.proofs.Bools.{both-true, both-false}
+use Rattle.exchange.proofs.Lengths.{agree}
 use Rattle.exchange.proofs.Demand.{Matched, at-most-one, no-two, fitting-opens, none-opens}
 use Rattle.exchange.proofs.Errors.{error-weight}
 use Rattle.exchange.proofs.keys.Laws.{h0-half, h1-half}
-use Rattle.exchange.proofs.Levels.{sizes}
 use Rattle.exchange.proofs.Making.{positions0-back, positions1-back, sigma-back, secret-back, rising-good}
-use Rattle.exchange.specs.Decoder.{nothing}
-use Rattle.exchange.specs.Opening.{secret, goodKey, sigma, sameError, opened}
+use Rattle.decoder.specs.Decoder.{nothing, Pair}
+use Rattle.decoder.specs.PrivateKey.{secret, goodKey, sigma}
+use Rattle.exchange.specs.Opening.{sameError, opened}
 use Rattle.exchange.specs.Fits.{FromKeyMaking, WellFormed, Fits}
 use Rattle.exchange.specs.Promises.{make-key-says, wrap-says, open-says, differs, seedBytes}
-use Rattle.exchange.specs.Scheme.{Pair, hashH, hashK, h0Of, h1Of, sigmaOf, publicOf, privateKey}
+use Rattle.exchange.specs.Scheme.{hashH, hashK, h0Of, h1Of, sigmaOf, publicOf, privateKey}
 
 -- where the answer is 0, the first reason does not apply, and neither does one of the rest
 clear : (reason : Reason) (rest : List Reason) → 0 < reason .number → firstOf (reason ∷ rest) ≡ 0 → (reason .applies ≡ false) × (firstOf rest ≡ 0)

@@ -11,8 +11,8 @@ use lib.Seq.{getD-drop}
 use Rattle.hashing.specs.Lists.{tab}
 use Rattle.hashing.specs.Sponge.{byteOf, permuted, soaked, squeezed, sponge, shake256}
 use Rattle.ring.proofs.Layouts.{Below}
-use Rattle.exchange.specs.Sampler.{numbers}
-use Rattle.exchange.proofs.little_endian.Laws.{bytes-below, numbers-at, numbers-length}
+use Rattle.ring.specs.Bytes.{numbers}
+use Rattle.ring.proofs.little_endian.Laws.{bytes-below, numbers-at, numbers-length}
 
 module _ (w : ℕ) where
   below-append : (xs ys : List ℕ) → Below w xs → Below w ys → Below w (xs ++ ys)

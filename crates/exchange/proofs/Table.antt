@@ -3,10 +3,10 @@ use mathlib.Core.Path.{refl}
 use lib.Dec.{lit<}
 use Rattle.ring.proofs.Examples.{P1, P2, P3, P4}
 use Rattle.ring.specs.Levels.{level1, level3}
-use Rattle.ring.specs.Polynomials.{terms, power, add, weight}
-use Rattle.exchange.specs.Decoder.{counter, threshold}
+use Rattle.ring.specs.Polynomials.{terms, power, add, weight, listed}
+use Rattle.decoder.specs.Decoder.{counter, threshold}
 use Rattle.exchange.specs.Examples.{Examples}
-use Rattle.exchange.specs.Sampler.{listed, candidate, appended, sampleBelow, sample}
+use Rattle.exchange.specs.Sampler.{candidate, appended, sampleBelow, sample}
 
 pub examples : Examples
 unfolding listed candidate appended sampleBelow sample threshold level1 level3 counter weight terms power add

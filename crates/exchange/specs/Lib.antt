@@ -1,5 +1,3 @@
-pub mod Counting
-pub mod Decoder
 pub mod Examples
 pub mod Fits
 pub mod Opening
@@ -8,4 +6,3 @@ pub mod Records
 pub mod Sampler
 pub mod Scheme
 pub mod Session
-pub mod Working

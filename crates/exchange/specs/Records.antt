@@ -14,7 +14,7 @@ use Rattle.exchange.specs.declared.record.Reading.the-variants.{Good, Sh
 use Rattle.exchange.specs.declared.record.Thing.{Thing}
 use Rattle.exchange.specs.declared.record.Thing.the-variants.{Seed, PublicKey, PrivateKey, Ciphertext, Message, SessionKey}
 use Rattle.exchange.specs.Promises.{seedBytes, differs}
-use Rattle.exchange.specs.Sampler.{littleEndian}
+use Rattle.ring.specs.Bytes.{littleEndian}
 
 -- "Things: 1 seed, 2 public key, 3 private key, 4 ciphertext, 5 message, 6 session key"
 unfoldable pub thingNumber : Thing → ℕ

@@ -1,23 +1,9 @@
 -- "Sampler (002, Algorithm 3)". Assumes nothing.
-use mathlib.Core.Bool.{Bool, true, false, _||_}
+use mathlib.Core.Bool.{true, false}
 use mathlib.Core.List.{List, [], _∷_, _++_}
 use Prim.Native.Nat.{ℕ, zero, suc, _+_, _-_, _*_, _/_, _^_}
-use lib.Dec.{eqb}
-use lib.ListN.{getD, take, drop}
-use Rattle.hashing.specs.Lists.{tab}
-
--- a number of bytes, the lowest first
-unfoldable pub littleEndian : List ℕ → ℕ
-littleEndian [] = 0
-littleEndian (byte ∷ rest) = byte + 256 * littleEndian rest
-
--- "Words are little-endian, s_0 first in the stream": the first n numbers of `size` bytes each
-unfoldable pub numbers : ℕ → ℕ → List ℕ → List ℕ
-numbers size n bytes = tab n (λ i. littleEndian (take size (drop (size * i) bytes)))
-
-unfoldable pub listed : ℕ → List ℕ → Bool
-listed p [] = false
-listed p (x ∷ rest) = eqb p x || listed p rest
+use lib.ListN.{getD}
+use Rattle.ring.specs.Polynomials.{listed}
 
 -- "pos = i + floor((len − i)·s_i / 2^32)"
 unfoldable pub candidate : ℕ → ℕ → ℕ → ℕ

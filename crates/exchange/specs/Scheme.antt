@@ -7,19 +7,11 @@ use lib.Dec.{ltb}
 use lib.ListN.{getD, take, drop}
 use Rattle.hashing.specs.Lists.{tab}
 use Rattle.hashing.specs.Sponge.{shake256, sha3-384}
-use Rattle.ring.specs.Bytes.{bytesOf}
+use Rattle.ring.specs.Bytes.{bytesOf, numbers}
 use Rattle.ring.specs.Levels.{Level, messageBytes}
-use Rattle.ring.specs.Polynomials.{Poly, rising, add, mul, inverseOf}
-use Rattle.exchange.specs.Sampler.{numbers, listed, sampleKey, sampleError}
-
--- two polynomials: h0 and h1 of a private key, e0 and e1 of an error
-pub record Pair : Type 0 where
-  pub half0 : Poly
-  pub half1 : Poly
-
--- the polynomial whose exponents are listed
-unfoldable pub support : List ℕ → Poly
-support positions k = listed k positions
+use Rattle.ring.specs.Polynomials.{Poly, rising, add, mul, inverseOf, listed, support}
+use Rattle.decoder.specs.Decoder.{Pair}
+use Rattle.exchange.specs.Sampler.{sampleKey, sampleError}
 
 -- "Key making": the stream of the seed's first 32 bytes, "4d bytes for h0, then the next 4d for h1, each sampled with len r and weight d"
 unfoldable pub keyStream : Level → List ℕ → List ℕ

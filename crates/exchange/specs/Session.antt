@@ -5,7 +5,8 @@ use Prim.Native.Nat.{ℕ}
 use Rattle.hashing.specs.Lists.{bits}
 use Rattle.ring.specs.Levels.{Level}
 use Rattle.exchange.specs.Opening.{messageOf, sameError}
-use Rattle.exchange.specs.Scheme.{Pair, hashH, hashK}
+use Rattle.decoder.specs.Decoder.{Pair}
+use Rattle.exchange.specs.Scheme.{hashH, hashK}
 
 abbrev pub either : Bool → List ℕ → List ℕ → List ℕ
 either t a b = elim t [ true ↦ a | false ↦ b ]

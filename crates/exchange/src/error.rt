@@ -1,8 +1,8 @@
 // H: the error of a message, as the two halves that wrapping sends and opening looks for.
 use crate::sampler;
-use crate::size;
 use hashing::fill;
 use hashing::sponge;
+use ring::size;
 ghost use mathlib.Core.Path.{_≡_};
 ghost use mathlib.Core.Bool.{_&&_, _||_};
 ghost use Prim.Native.Nat.{_+_, _*_, _≤_};
@@ -12,7 +12,7 @@ ghost use Rattle.hashing.specs.Lists.{bits};
 ghost use Rattle.hashing.specs.Sponge.{shake256};
 ghost use Rattle.ring.specs.Bytes.{byteLength, bytesOf};
 ghost use Rattle.ring.specs.Levels.{levelOf, polyBytes};
-ghost use Rattle.exchange.specs.Sampler.{listed};
+ghost use Rattle.ring.specs.Polynomials.{listed};
 ghost use Rattle.exchange.specs.Scheme.{errorPositions, hashH};
 
 // Room for the positions of the largest level, for the words that they come from, and for the bytes of a half.

@@ -3,12 +3,12 @@ use crate::bytes;
 use crate::error;
 use crate::refuse;
 use crate::sampler;
-use crate::size;
 use hashing::sponge;
 use ring::WORDS;
 use ring::invert;
 use ring::multiply;
 use ring::positions;
+use ring::size;
 use ring::words;
 ghost use mathlib.Core.Path.{_≡_};
 ghost use mathlib.Core.Bool.{true};
@@ -19,10 +19,11 @@ ghost use Rattle.hashing.specs.Answers.Outcome.{gives};
 ghost use Rattle.hashing.specs.Lists.{bits};
 ghost use Rattle.ring.specs.Levels.{known, levelOf, polyBytes, privateBytes};
 ghost use Rattle.ring.specs.Polynomials;
-ghost use Rattle.ring.specs.Polynomials.{InRing, weight};
+ghost use Rattle.ring.specs.Polynomials.{InRing, weight, support};
 ghost use Rattle.exchange.specs.Promises.{seedBytes, make-key-says};
-ghost use Rattle.exchange.specs.Sampler.{numbers, sampleKey};
-ghost use Rattle.exchange.specs.Scheme.{support, keyStream, h0Of, h1Of, sigmaOf, twoBytes, privateKey};
+ghost use Rattle.ring.specs.Bytes.{numbers};
+ghost use Rattle.exchange.specs.Sampler.{sampleKey};
+ghost use Rattle.exchange.specs.Scheme.{keyStream, h0Of, h1Of, sigmaOf, twoBytes, privateKey};
 
 // Room for the largest level: the words of both halves, and one half as positions and as exponents.
 fn no_words() -> [u8; 824]

@@ -1,22 +1,19 @@
 // BIKE as document 01 fixes it: key making, wrapping, decoding, opening, and the record reader.
 pub mod bytes;
-pub mod counters;
-pub mod decoder;
 pub mod digest;
 pub mod doors;
 pub mod error;
 pub mod keys;
-pub mod little_endian;
 pub mod opening;
 pub mod record;
 pub mod sampler;
-pub mod size;
 pub mod wrapping;
 
 use hashing::fill;
 pub use record::read_record;
 use ring::layout::pad_set;
 use ring::level;
+use ring::size;
 use ring::words;
 ghost use mathlib.Core.Path.{_≡_};
 ghost use mathlib.Core.List.{[], _∷_};

@@ -1,7 +1,7 @@
 // Records: a length, a kind and a body.
-use crate::little_endian;
-use crate::size;
 use ring::level;
+use ring::little_endian;
+use ring::size;
 ghost use mathlib.Core.Path.{_≡_};
 ghost use Prim.Native.Nat.{_≤_, _<_};
 ghost use lib.ListN.{length};

@@ -1,15 +1,17 @@
 // The sampler: as many positions as are asked for, no two of them equal, from one 32-bit word each.
-use crate::little_endian;
+use ring::little_endian;
 ghost use mathlib.Core.Path.{_≡_};
 ghost use mathlib.Core.List.{[], _∷_, _++_};
 ghost use Prim.Native.Nat.{_*_, _≤_, _<_};
 ghost use lib.ListN.{length};
+ghost use Rattle.ring.specs.Polynomials;
 ghost use Rattle.exchange.specs.Sampler;
-ghost use Rattle.exchange.specs.Sampler.{appended, numbers};
+ghost use Rattle.exchange.specs.Sampler.{appended};
+ghost use Rattle.ring.specs.Bytes.{numbers};
 
 // All of the list is looked at, wherever the position is found.
 fn listed(pos: u32, list: &[u32]) -> bool
-    ensures { λ r. ⌜ r ≡ Sampler.listed pos (now (list .entry)) ⌝ }
+    ensures { λ r. ⌜ r ≡ Polynomials.listed pos (now (list .entry)) ⌝ }
 {
     let mut found = false;
     let mut k = 0;

@@ -1,6 +1,6 @@
 pub mod Binary
+pub mod Bools
 pub mod Chains
-pub mod Entries
 pub mod Examples
 pub mod Inverses
 pub mod Layouts

@@ -1,9 +1,9 @@
--- A polynomial as a list of bytes or of words. Assumes nothing.
+-- A polynomial as a list of bytes or of words, and numbers in bytes. Assumes nothing.
 use mathlib.Core.Bool.{Bool}
-use mathlib.Core.List.{List}
+use mathlib.Core.List.{List, [], _∷_}
 use Prim.Native.Nat.{ℕ, zero, suc, _+_, _*_, _/_, _%_, _^_}
 use lib.Dec.{ltb}
-use lib.ListN.{getD}
+use lib.ListN.{getD, take, drop}
 use Rattle.hashing.specs.Lists.{tab}
 use Rattle.ring.specs.Polynomials.{Poly, bit}
 
@@ -26,3 +26,12 @@ bytesOf r a = listOf 8 (byteLength r) a
 -- "a pad bit set": the last byte has a bit from r mod 8 on. (Where 8 divides r there is no byte r div 8, and no pad.)
 unfoldable pub padSet : ℕ → List ℕ → Bool
 padSet r xs = ltb 0 (getD xs (r / 8) 0 / 2 ^ (r % 8))
+
+-- a number of bytes, the lowest first
+unfoldable pub littleEndian : List ℕ → ℕ
+littleEndian [] = 0
+littleEndian (byte ∷ rest) = byte + 256 * littleEndian rest
+
+-- "Words are little-endian, s_0 first in the stream": the first n numbers of `size` bytes each
+unfoldable pub numbers : ℕ → ℕ → List ℕ → List ℕ
+numbers size n bytes = tab n (λ i. littleEndian (take size (drop (size * i) bytes)))

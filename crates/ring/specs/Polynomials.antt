@@ -52,6 +52,15 @@ unfoldable pub terms : ℕ → List ℕ → Poly
 terms r [] = λ k. false
 terms r (i ∷ rest) = add (power r i) (terms r rest)
 
+-- whether a number is in a list
+unfoldable pub listed : ℕ → List ℕ → Bool
+listed p [] = false
+listed p (x ∷ rest) = eqb p x || listed p rest
+
+-- the polynomial whose exponents are listed
+unfoldable pub support : List ℕ → Poly
+support positions k = listed k positions
+
 -- "A polynomial's weight is the number of ones"
 abbrev pub bit : Bool → ℕ
 bit true = 1

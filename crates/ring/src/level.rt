@@ -44,10 +44,3 @@ pub fn level_of(level: u32) -> Level
         floor: 52,
     }
 }
-
-pub fn block_length(level: u32) -> usize
-    ensures { λ r. ⌜ r ≡ levelOf level .r ⌝ }
-{
-    let l = level_of(level);
-    l.r
-}

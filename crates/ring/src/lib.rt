@@ -3,8 +3,10 @@ pub mod frame;
 pub mod invert;
 pub mod layout;
 pub mod level;
+pub mod little_endian;
 pub mod multiply;
 pub mod positions;
+pub mod size;
 pub mod sparse;
 pub mod square;
 pub mod unpack;
@@ -30,7 +32,7 @@ pub fn product(level: u32, a: &[u8], b: &[u8], out: &mut [u8]) -> u32
         zero(out);
         return 1;
     }
-    let r = level::block_length(level);
+    let r = size::block(level);
     let n = byte_length(r);
     if (a.len() != n) | (b.len() != n) | (out.len() != n) {
         zero(out);
@@ -51,7 +53,7 @@ pub fn inverse(level: u32, a: &[u8], out: &mut [u8]) -> u32
         zero(out);
         return 1;
     }
-    let r = level::block_length(level);
+    let r = size::block(level);
     let n = byte_length(r);
     if (a.len() != n) | (out.len() != n) {
         zero(out);

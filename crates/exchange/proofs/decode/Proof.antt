@@ -12,16 +12,16 @@ use Rattle.hashing.specs.Answers.Outcome.{gives}
 use Rattle.hashing.specs.Lists.{bits}
 use Rattle.ring.specs.Bytes.{listOf, bytesOf, byteLength, padSet}
 use Rattle.ring.specs.Levels.{levelOf, polyBytes, privateBytes}
-use Rattle.ring.specs.Polynomials.{Poly, InRing}
+use Rattle.ring.specs.Polynomials.{Poly, InRing, support}
 use Rattle.ring.proofs.Layouts.{pad-rule}
-use Rattle.exchange.specs.Decoder.{decoded, failed}
-use Rattle.exchange.specs.Opening.{secret, risingFrom, goodKey}
+use Rattle.decoder.specs.Decoder.{decoded, failed, Pair}
+use Rattle.decoder.specs.PrivateKey.{secret, risingFrom, goodKey}
 use Rattle.exchange.specs.Promises.{differs, decode-says}
-use Rattle.exchange.specs.Scheme.{Pair, support}
-use Rattle.exchange.specs.Working.{keyOf}
-use Rattle.exchange.proofs.Bools.{both-true, both-false, agree}
-use Rattle.exchange.proofs.Levels.{sizes}
-use Rattle.exchange.proofs.decoder.Laws.{pair-path}
+use Rattle.decoder.specs.Working.{keyOf}
+use Rattle.ring.proofs.Bools.{both-true, both-false}
+use Rattle.exchange.proofs.Lengths.{agree}
+use Rattle.ring.proofs.Levels.{sizes}
+use Rattle.decoder.proofs.Laws.{pair-path}
 use Rattle.exchange.proofs.decode.Statement.{statement}
 use Rattle.exchange.proofs.decode.Tie as tie
 

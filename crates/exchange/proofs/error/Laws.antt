@@ -16,10 +16,9 @@ use lib.Seq.{getD-set-same, getD-set-other, take-suc}
 use borrow.Author.Tests.{lt-ltb, le-ltb, eq-eqb, ne-eqb}
 use Rattle.hashing.specs.Lists.{bitAt, bits}
 use Rattle.hashing.proofs.Words.{bit-zero, bit-or, bit-above, bit-shl, bit-shl-below}
-use Rattle.ring.specs.Polynomials.{Poly}
+use Rattle.ring.specs.Polynomials.{Poly, listed}
 use Rattle.ring.proofs.Layouts.{Below}
 use Rattle.ring.proofs.Parity.{eqb-same}
-use Rattle.exchange.specs.Sampler.{listed}
 use Rattle.exchange.proofs.sampler.Laws.{listed-snoc}
 
 -- a power of two has one bit

@@ -5,7 +5,8 @@ use lib.ListN.{length}
 use borrow.Author.Needs.{needs}
 use Rattle.hashing.specs.Answers.{firstOf, content, settle}
 use Rattle.exchange.specs.Promises.{differs, error-of-says}
-use Rattle.exchange.proofs.Bools.{both-false, agree}
+use Rattle.ring.proofs.Bools.{both-false}
+use Rattle.exchange.proofs.Lengths.{agree}
 use Rattle.exchange.proofs.error_of.Statement.{statement}
 use Rattle.exchange.proofs.error_of.Tie as tie
 

@@ -13,14 +13,14 @@ use borrow.Author.Tests.{le-ltb, eq-eqb}
 use Rattle.hashing.specs.Answers.{firstOf, content, settle}
 use Rattle.hashing.specs.Answers.Outcome.{gives}
 use Rattle.hashing.specs.Lists.{bits}
-use Rattle.ring.specs.Bytes.{bytesOf}
+use Rattle.ring.specs.Bytes.{bytesOf, numbers}
 use Rattle.ring.specs.Levels.{known, levelOf, messageBytes, polyBytes, privateBytes}
-use Rattle.ring.specs.Polynomials.{Poly, InRing, weight, hasInverse}
+use Rattle.ring.specs.Polynomials.{Poly, InRing, weight, hasInverse, listed, support}
 use Rattle.ring.proofs.Layouts.{Below, bits-bytesOf}
 use Rattle.exchange.specs.Promises.{seedBytes, differs, make-key-says}
-use Rattle.exchange.specs.Sampler.{listed, numbers, sample, sampleKey}
-use Rattle.exchange.specs.Scheme.{support, keyStream, h0Of, h1Of, sigmaOf, publicOf, twoBytes, privateKey}
-use Rattle.exchange.proofs.Levels.{sizes}
+use Rattle.exchange.specs.Sampler.{sample, sampleKey}
+use Rattle.exchange.specs.Scheme.{keyStream, h0Of, h1Of, sigmaOf, publicOf, twoBytes, privateKey}
+use Rattle.ring.proofs.Levels.{sizes}
 use Rattle.exchange.proofs.Making.{length-twoBytes, bounded}
 use Rattle.exchange.proofs.Streams.{below-drop, shake256-below, words-below}
 use Rattle.exchange.proofs.sampler.Laws.{sample-below, sample-weight}

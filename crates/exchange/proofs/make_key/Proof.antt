@@ -6,7 +6,8 @@ use borrow.Author.Needs.{needs}
 use borrow.Author.Tests.{not-false}
 use Rattle.hashing.specs.Answers.{firstOf, content, settle}
 use Rattle.exchange.specs.Promises.{differs, make-key-says}
-use Rattle.exchange.proofs.Bools.{both-false, agree}
+use Rattle.ring.proofs.Bools.{both-false}
+use Rattle.exchange.proofs.Lengths.{agree}
 use Rattle.exchange.proofs.make_key.Statement.{statement}
 use Rattle.exchange.proofs.make_key.Tie as tie
 

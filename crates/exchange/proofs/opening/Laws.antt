@@ -9,10 +9,10 @@ use Rattle.ring.specs.Polynomials.{Poly, InRing, Tells, same}
 use Rattle.ring.proofs.Inverses.{same-equal}
 use Rattle.ring.proofs.Layouts.{bits-bytesOf}
 use Rattle.exchange.specs.Opening.{sameError}
-use Rattle.exchange.specs.Scheme.{Pair}
+use Rattle.decoder.specs.Decoder.{Pair}
 use Rattle.exchange.specs.Session.{either}
 use Rattle.exchange.proofs.Demand.{same-refl}
-use Rattle.exchange.proofs.Bools.{both-true}
+use Rattle.ring.proofs.Bools.{both-true}
 
 pub either-is : (t : Bool) {x a b : List ℕ} → (t ≡ true → x ≡ a) → (t ≡ false → x ≡ b) → x ≡ either t a b
 either-is true first second = first refl

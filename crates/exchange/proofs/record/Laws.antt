@@ -17,7 +17,7 @@ use Rattle.exchange.specs.declared.record.Record.{Record}
 use Rattle.exchange.specs.declared.record.Thing.{Thing}
 use Rattle.exchange.specs.declared.record.Thing.the-variants.{Seed, PublicKey, PrivateKey, Ciphertext, Message, SessionKey}
 use Rattle.exchange.specs.Records.{Lists, thingNumber, bodyOf, knownKind, outcomeOf, read-record-says}
-use Rattle.exchange.proofs.Bools.{both-true, both-false}
+use Rattle.ring.proofs.Bools.{both-true, both-false}
 
 -- a known kind names one of the six things
 pub known-thing : (kind : ℕ) → knownKind kind ≡ true → (1 ≤ kind % 256) × (kind % 256 ≤ 6)

@@ -12,9 +12,9 @@ use lib.ListN.{length, getD, set, take, length-append}
 use lib.Pow.{pow-pos}
 use lib.Seq.{take-suc-set}
 use borrow.Author.Tests.{eqb-true, eqb-false, eq-eqb, ne-eqb}
-use Rattle.ring.specs.Polynomials.{weight}
-use Rattle.exchange.specs.Sampler.{listed, candidate, appended, sampleBelow, sample}
-use Rattle.exchange.proofs.Bools.{both-false, one-true}
+use Rattle.ring.specs.Polynomials.{weight, listed}
+use Rattle.exchange.specs.Sampler.{candidate, appended, sampleBelow, sample}
+use Rattle.ring.proofs.Bools.{both-false, one-true}
 use Rattle.ring.proofs.Weights.{weight-none, weight-more}
 
 pub listed-snoc : (p : ℕ) (list : List ℕ) (x : ℕ) → listed p (list ++ (x ∷ [])) ≡ listed p list || eqb p x

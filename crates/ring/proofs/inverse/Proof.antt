@@ -14,14 +14,14 @@ use Rattle.ring.specs.Bytes.{byteLength, bytesOf}
 use Rattle.ring.specs.Levels.{known, levelOf, polyBytes}
 use Rattle.ring.specs.Polynomials.{InRing, hasInverse, inverseOf}
 use Rattle.ring.specs.Promises.{inverse-says}
-use Rattle.ring.proofs.Entries.{neither}
+use Rattle.ring.proofs.Bools.{both-false}
 use Rattle.ring.proofs.Layouts.{pad-rule}
 use Rattle.ring.proofs.Levels.{r-big, r-odd, r-small, r-cycle}
 use Rattle.ring.proofs.inverse.Statement.{statement}
 use Rattle.ring.proofs.inverse.Tie as tie
 
-small : (c : tie.After-block-length) → c .block-length .result < 24704
-small c = rw (c .block-length .ensures) (r-small _)
+small : (c : tie.After-block) → c .block .result < 24704
+small c = rw (c .block .ensures) (r-small _)
 
 known-is : (c : tie.Else1) → known (c .before .before .before .before .args .level) ≡ true
 known-is c = sym (c .before .known .ensures) ∙ not-false _ (c .if1 .left)
@@ -36,7 +36,7 @@ returns c =
 
 -- the length that the level gives
 bytes-is : (c : tie.After-byte-length) → c .byte-length .result ≡ polyBytes (levelOf (c .before .before .before .before .before .before .args .level))
-bytes-is c = c .byte-length .ensures ∙ ap byteLength (c .before .block-length .ensures)
+bytes-is c = c .byte-length .ensures ∙ ap byteLength (c .before .block .ensures)
 
 returns-2 : tie.Need-returns-2
 unfolding inverse-says settle firstOf content
@@ -48,10 +48,10 @@ returns-2 c =
 -- the lengths that the second test leaves
 lengths : (c : tie.Else2) →
     let args = c .before .before .before .before .before .before .before .args in
-    let n = byteLength (c .before .before .block-length .result) in
+    let n = byteLength (c .before .before .block .result) in
     (length (args .a .now) ≡ n) × (length (args .out .now) ≡ n)
 lengths c =
-    let each = neither _ _ (c .if2 .left) in
+    let each = both-false _ _ (c .if2 .left) in
     let n = c .before .byte-length .ensures in
     (eqb-true _ _ (not-false _ (each .0)) ∙ n, eqb-true _ _ (not-false _ (each .1)) ∙ n)
 
@@ -64,7 +64,7 @@ returns-3 c =
       known-is (else .before .before .before),
       ← bytes-is (else .before),
       else .if2 .left,
-      ← else .before .before .block-length .ensures,
+      ← else .before .before .block .ensures,
       ← then .before .pad-set .ensures,
       then .if3 .taken,
     )
@@ -73,11 +73,11 @@ returns-3 c =
 -- no pad bit is set: the bytes are those of a polynomial of the ring
 inside : (c : tie.Else3) →
     let level = c .before .before .before .before in
-    InRing (level .block-length .result) (bits 8 (level .before .before .before .before .before .args .a .now))
+    InRing (level .block .result) (bits 8 (level .before .before .before .before .before .args .a .now))
 inside c =
     let else = c .before .before in
     let first = else .before .before .before .before .before .before in
-    pad-rule (else .before .before .block-length .result) _ (lengths else .0) (λ i. first .shared-slice-known .given i .fits) .0
+    pad-rule (else .before .before .block .result) _ (lengths else .0) (λ i. first .shared-slice-known .given i .fits) .0
     (sym (c .before .pad-set .ensures) ∙ c .if3 .left)
 
 load-requires : tie.Need-load-requires
@@ -88,15 +88,15 @@ load-requires c κs =
 
 invert-requires : tie.Need-invert-requires
 invert-requires c κs =
-    let row = c .before .before .before .before .before .block-length .ensures in
+    let row = c .before .before .before .before .before .block .ensures in
     (rw row (r-odd _, r-big _, r-small _, r-cycle _), rw (c .load .ensures) (inside (c .before)))
 
 -- what `invert` says, of the bytes
 found : (c : tie.After-invert) →
     let level = c .before .before .before .before .before .before in
     let a = bits 8 (level .before .before .before .before .before .args .a .now) in
-    (c .invert .result .exists ≡ hasInverse (level .block-length .result) a)
-    × (c .invert .result .exists ≡ true → bits 64 (c .invert .result .value) ≡ inverseOf (level .block-length .result) a)
+    (c .invert .result .exists ≡ hasInverse (level .block .result) a)
+    × (c .invert .result .exists ≡ true → bits 64 (c .invert .result .value) ≡ inverseOf (level .block .result) a)
 found c = rw (← c .before .load .ensures) (c .invert .ensures)
 
 returns-4 : tie.Need-returns-4
@@ -109,7 +109,7 @@ returns-4 c =
       known-is (else .before .before .before),
       ← bytes-is (else .before),
       else .if2 .left,
-      ← else .before .before .block-length .ensures,
+      ← else .before .before .block .ensures,
       ← last .before .pad-set .ensures,
       last .if3 .left,
       ← found (then .before .before) .0,
@@ -135,7 +135,7 @@ returns-5 c =
       known-is (else .before .before .before),
       ← bytes-is (else .before),
       else .if2 .left,
-      ← else .before .before .block-length .ensures,
+      ← else .before .before .block .ensures,
       ← last .before .pad-set .ensures,
       last .if3 .left,
       ← found (done .before .before) .1 there,

@@ -15,13 +15,13 @@ use Rattle.ring.specs.Levels.{known, levelOf, polyBytes}
 use Rattle.ring.specs.Polynomials.{InRing}
 use Rattle.ring.specs.Promises.{product-says}
 use Rattle.ring.proofs.Levels.{r-odd, r-small}
-use Rattle.ring.proofs.Entries.{neither}
+use Rattle.ring.proofs.Bools.{both-false}
 use Rattle.ring.proofs.Layouts.{pad-rule}
 use Rattle.ring.proofs.product.Statement.{statement}
 use Rattle.ring.proofs.product.Tie as tie
 
-small : (c : tie.After-block-length) → c .block-length .result < 24704
-small c = rw (c .block-length .ensures) (r-small _)
+small : (c : tie.After-block) → c .block .result < 24704
+small c = rw (c .block .ensures) (r-small _)
 
 known-is : (c : tie.Else1) → known (c .before .before .before .before .before .args .level) ≡ true
 known-is c = sym (c .before .known .ensures) ∙ not-false _ (c .if1 .left)
@@ -38,7 +38,7 @@ byte-length-requires c κs = small c
 
 -- the length that the level gives
 bytes-is : (c : tie.After-byte-length) → c .byte-length .result ≡ polyBytes (levelOf (c .before .before .before .before .before .before .before .args .level))
-bytes-is c = c .byte-length .ensures ∙ ap byteLength (c .before .block-length .ensures)
+bytes-is c = c .byte-length .ensures ∙ ap byteLength (c .before .block .ensures)
 
 returns-2 : tie.Need-returns-2
 unfolding product-says settle firstOf content
@@ -50,11 +50,11 @@ returns-2 c =
 -- the lengths that the second test leaves
 lengths : (c : tie.Else2) →
     let args = c .before .before .before .before .before .before .before .before .args in
-    let n = byteLength (c .before .before .block-length .result) in
+    let n = byteLength (c .before .before .block .result) in
     (length (args .a .now) ≡ n) × (length (args .b .now) ≡ n) × (length (args .out .now) ≡ n)
 lengths c =
-    let ab = neither _ _ (c .if2 .left) in
-    let each = neither _ _ (ab .0) in
+    let ab = both-false _ _ (c .if2 .left) in
+    let each = both-false _ _ (ab .0) in
     let n = c .before .byte-length .ensures in
     (eqb-true _ _ (not-false _ (each .0)) ∙ n, eqb-true _ _ (not-false _ (each .1)) ∙ n, eqb-true _ _ (not-false _ (ab .1)) ∙ n)
 
@@ -73,7 +73,7 @@ returns-3 c =
       known-is (else .before .before .before),
       ← bytes-is (else .before),
       else .if2 .left,
-      ← else .before .before .block-length .ensures,
+      ← else .before .before .block .ensures,
       ← then .before .before .pad-set .ensures,
       ← then .before .pad-set2 .ensures,
       then .if3 .taken,
@@ -83,13 +83,13 @@ returns-3 c =
 -- no pad bit is set: the bytes are those of polynomials of the ring
 inside : (c : tie.Else3) →
     let start = c .before .before .before .before .before .before .before .before .before .before .before in
-    let r = c .before .before .before .before .before .block-length .result in
+    let r = c .before .before .before .before .before .block .result in
     InRing r (bits 8 (start .args .a .now)) × InRing r (bits 8 (start .args .b .now))
 inside c =
     let else = c .before .before .before in
     let first = else .before .before .before .before .before .before in
-    let r = else .before .before .block-length .result in
-    let pads = neither _ _ (c .if3 .left) in (
+    let r = else .before .before .block .result in
+    let pads = both-false _ _ (c .if3 .left) in (
       pad-rule r _ (lengths else .0) (λ i. first .before .shared-slice-known .given i .fits) .0 (sym (c .before .before .pad-set .ensures) ∙ pads .0),
       pad-rule r _ (lengths else .1) (λ i. first .shared-slice-known2 .given i .fits) .0 (sym (c .before .pad-set2 .ensures) ∙ pads .1),
     )
@@ -110,7 +110,7 @@ multiply-requires : tie.Need-multiply-requires
 multiply-requires c κs =
     let in-ring = inside (c .before .before) in
     let few = small (c .before .before .before .before .before .before .before) in (
-      (rw (c .before .before .before .before .before .before .before .block-length .ensures) (r-odd _), omega arith),
+      (rw (c .before .before .before .before .before .before .before .block .ensures) (r-odd _), omega arith),
       (rw (c .before .load .ensures) (in-ring .0), rw (c .load2 .ensures) (in-ring .1)),
     )
 
@@ -130,7 +130,7 @@ returns-4 c =
       known-is (else .before .before .before),
       ← bytes-is (else .before),
       else .if2 .left,
-      ← else .before .before .block-length .ensures,
+      ← else .before .before .block .ensures,
       ← last .before .before .pad-set .ensures,
       ← last .before .pad-set2 .ensures,
       last .if3 .left,

@@ -8,7 +8,7 @@ use lib.Seq.{length-take-le}
 use borrow.Author.Needs.{needs}
 use Rattle.ring.specs.Levels.{levelOf}
 use Rattle.exchange.specs.Scheme.{errorPositions, split, hashH}
-use Rattle.exchange.proofs.Levels.{sizes}
+use Rattle.ring.proofs.Levels.{sizes}
 use Rattle.exchange.proofs.error.hash_h.Statement.{statement}
 use Rattle.exchange.proofs.error.hash_h.Tie as tie
 

@@ -10,7 +10,7 @@ use borrow.Author.Needs.{needs}
 use Rattle.hashing.specs.Lists.{bits}
 use Rattle.ring.specs.Bytes.{bytesOf}
 use Rattle.ring.proofs.Layouts.{Below, bytesOf-bits}
-use Rattle.exchange.specs.Sampler.{listed}
+use Rattle.ring.specs.Polynomials.{listed}
 use Rattle.exchange.proofs.error.Laws.{zeros-below, placed-none, placed-more}
 use Rattle.exchange.proofs.error.place.Statement.{statement}
 use Rattle.exchange.proofs.error.place.Tie as tie

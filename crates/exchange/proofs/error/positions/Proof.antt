@@ -7,7 +7,7 @@ use lib.Seq.{length-take-le, take-at}
 use borrow.Author.Needs.{needs}
 use Rattle.exchange.specs.Sampler.{sampleError}
 use Rattle.exchange.specs.Scheme.{errorPositions}
-use Rattle.exchange.proofs.Levels.{sizes}
+use Rattle.ring.proofs.Levels.{sizes}
 use Rattle.exchange.proofs.error.positions.Statement.{statement}
 use Rattle.exchange.proofs.error.positions.Tie as tie
 

@@ -6,7 +6,7 @@ use lib.ListN.{length}
 use lib.Seq.{length-take-le, take-at}
 use borrow.Author.Needs.{needs}
 use Rattle.hashing.specs.Sponge.{shake256}
-use Rattle.exchange.proofs.Levels.{sizes}
+use Rattle.ring.proofs.Levels.{sizes}
 use Rattle.exchange.proofs.error.stream.Statement.{statement}
 use Rattle.exchange.proofs.error.stream.Tie as tie
 

@@ -7,7 +7,7 @@ use lib.Seq.{length-take-le}
 use borrow.Author.Needs.{needs}
 use Rattle.ring.specs.Levels.{levelOf}
 use Rattle.exchange.specs.Scheme.{keyStream, h0Of, h1Of}
-use Rattle.exchange.proofs.Levels.{sizes}
+use Rattle.ring.proofs.Levels.{sizes}
 use Rattle.exchange.proofs.Parts.{drop-take}
 use Rattle.exchange.proofs.keys.both_halves.Statement.{statement}
 use Rattle.exchange.proofs.keys.both_halves.Tie as tie

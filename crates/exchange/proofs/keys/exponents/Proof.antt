@@ -9,8 +9,7 @@ use borrow.Author.Needs.{needs}
 use Rattle.hashing.specs.Lists.{bits}
 use Rattle.ring.specs.Levels.{levelOf}
 use Rattle.ring.specs.Polynomials.{rising}
-use Rattle.ring.proofs.Levels.{r-small}
-use Rattle.exchange.proofs.Levels.{sizes}
+use Rattle.ring.proofs.Levels.{r-small, sizes}
 use Rattle.exchange.proofs.Making.{length-rising}
 use Rattle.exchange.proofs.keys.exponents.Statement.{statement}
 use Rattle.exchange.proofs.keys.exponents.Tie as tie

@@ -9,7 +9,7 @@ use borrow.Author.Needs.{needs}
 use Rattle.hashing.specs.Lists.{bits}
 use Rattle.ring.specs.Bytes.{byteLength}
 use Rattle.ring.specs.Levels.{levelOf}
-use Rattle.exchange.proofs.Levels.{sizes}
+use Rattle.ring.proofs.Levels.{sizes}
 use Rattle.exchange.proofs.keys.Laws.{half-bits}
 use Rattle.exchange.proofs.keys.half.Statement.{statement}
 use Rattle.exchange.proofs.keys.half.Tie as tie

@@ -10,9 +10,8 @@ use Rattle.ring.specs.Bytes.{bytesOf}
 use Rattle.ring.specs.Levels.{levelOf}
 use Rattle.ring.specs.Polynomials.{hasInverse, inverseOf}
 use Rattle.ring.proofs.Inverses.{inverse-found}
-use Rattle.ring.proofs.Levels.{r-pos, r-big, r-odd, r-small, r-cycle}
+use Rattle.ring.proofs.Levels.{r-pos, r-big, r-odd, r-small, r-cycle, sizes}
 use Rattle.exchange.specs.Scheme.{h0Of, publicOf}
-use Rattle.exchange.proofs.Levels.{sizes}
 use Rattle.exchange.proofs.keys.Laws.{h0-half, h1-half, no-keys, both-keys}
 use Rattle.exchange.proofs.keys.make.Statement.{statement}
 use Rattle.exchange.proofs.keys.make.Tie as tie

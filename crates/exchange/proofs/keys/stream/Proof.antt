@@ -7,7 +7,7 @@ use lib.Seq.{length-take-le, take-at}
 use borrow.Author.Needs.{needs}
 use Rattle.hashing.specs.Sponge.{shake256}
 use Rattle.exchange.specs.Scheme.{keyStream}
-use Rattle.exchange.proofs.Levels.{sizes}
+use Rattle.ring.proofs.Levels.{sizes}
 use Rattle.exchange.proofs.keys.stream.Statement.{statement}
 use Rattle.exchange.proofs.keys.stream.Tie as tie
 

@@ -6,7 +6,7 @@ use lib.ListN.{length}
 use lib.Seq.{length-take-le}
 use borrow.Author.Needs.{needs}
 use Rattle.exchange.specs.Scheme.{twoBytes}
-use Rattle.exchange.proofs.Levels.{sizes}
+use Rattle.ring.proofs.Levels.{sizes}
 use Rattle.exchange.proofs.keys.write_half.Statement.{statement}
 use Rattle.exchange.proofs.keys.write_half.Tie as tie
 

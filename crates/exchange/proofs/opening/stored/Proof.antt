@@ -6,7 +6,7 @@ use lib.ListN.{length, take}
 use lib.Seq.{length-take-le, take-at}
 use borrow.Author.Needs.{needs}
 use Rattle.ring.specs.Bytes.{bytesOf}
-use Rattle.exchange.proofs.Levels.{sizes}
+use Rattle.ring.proofs.Levels.{sizes}
 use Rattle.exchange.proofs.opening.stored.Statement.{statement}
 use Rattle.exchange.proofs.opening.stored.Tie as tie
 

@@ -5,7 +5,7 @@ use native.Mathlib.Numerals.{add-one}
 use native.Mathlib.Omega.{arith}
 use lib.ListN.{length, take}
 use lib.Seq.{take-suc, take-all}
-use Rattle.exchange.specs.Sampler.{listed}
+use Rattle.ring.specs.Polynomials.{listed}
 use Rattle.exchange.proofs.sampler.Laws.{listed-snoc}
 use Rattle.exchange.proofs.sampler.listed.Statement.{statement}
 use Rattle.exchange.proofs.sampler.listed.Tie as tie

@@ -6,8 +6,9 @@ use native.Mathlib.Omega.{arith}
 use lib.ListN.{length, take, length-set}
 use lib.Seq.{take-all, length-take-le}
 use borrow.Author.Needs.{needs}
-use Rattle.exchange.specs.Sampler.{numbers, sampleBelow, sample}
-use Rattle.exchange.proofs.little_endian.Laws.{numbers-at}
+use Rattle.ring.specs.Bytes.{numbers}
+use Rattle.exchange.specs.Sampler.{sampleBelow, sample}
+use Rattle.ring.proofs.little_endian.Laws.{numbers-at}
 use Rattle.exchange.proofs.sampler.Laws.{sample-turn}
 use Rattle.exchange.proofs.sampler.sample.Statement.{statement}
 use Rattle.exchange.proofs.sampler.sample.Tie as tie

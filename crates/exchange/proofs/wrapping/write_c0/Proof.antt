@@ -2,9 +2,8 @@
 use native.Mathlib.Omega.{arith}
 use borrow.Author.Needs.{needs}
 use Rattle.ring.specs.Bytes.{bytesOf}
-use Rattle.ring.proofs.Levels.{r-pos, r-odd, r-small}
+use Rattle.ring.proofs.Levels.{r-pos, r-odd, r-small, sizes}
 use Rattle.ring.proofs.Ring.{mul-in}
-use Rattle.exchange.proofs.Levels.{sizes}
 use Rattle.exchange.proofs.wrapping.write_c0.Statement.{statement}
 use Rattle.exchange.proofs.wrapping.write_c0.Tie as tie
 

@@ -12,7 +12,7 @@ use Rattle.ring.specs.Levels.{levelOf}
 use Rattle.ring.proofs.Layouts.{bits-bytesOf}
 use Rattle.exchange.specs.Scheme.{hashH, hashL, wrapped}
 use Rattle.exchange.proofs.Errors.{error-in0, error-in1}
-use Rattle.exchange.proofs.Levels.{sizes}
+use Rattle.ring.proofs.Levels.{sizes}
 use Rattle.exchange.proofs.Parts.{two-parts, front-room}
 use Rattle.exchange.proofs.wrapping.write_ciphertext.Statement.{statement}
 use Rattle.exchange.proofs.wrapping.write_ciphertext.Tie as tie

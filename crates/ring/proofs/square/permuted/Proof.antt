@@ -9,8 +9,7 @@ use borrow.Author.Needs.{needs}
 use Rattle.hashing.specs.Lists.{bits}
 use Rattle.ring.specs.Held.{Held}
 use Rattle.ring.specs.Polynomials.{Poly, InRing}
-use Rattle.ring.proofs.Packed.{bits-zeros}
-use Rattle.ring.proofs.Packed.{fill-below, fill-above}
+use Rattle.ring.proofs.Packed.{bits-zeros, fill-below, fill-above}
 use Rattle.ring.proofs.square.Laws.{bit-small, circle-back, circle-stride}
 use Rattle.ring.proofs.square.permuted.Statement.{statement}
 use Rattle.ring.proofs.square.permuted.Tie as tie

@@ -1,0 +1,11 @@
+-- `exchange::counters::entry`: a byte of the rows is 0 or 1.
+use mathlib.Core.Path.{refl}
+use borrow.Author.Needs.{needs}
+use Rattle.decoder.proofs.counters.entry.Statement.{statement}
+use Rattle.decoder.proofs.counters.entry.Tie as tie
+
+returns : tie.Need-returns
+returns c = (refl, c .before .pre .1 _)
+
+pub entry-spec : {M : Type 1} → statement M
+entry-spec = tie.close (tie.spec (λ c. search needs) (λ c. search needs) returns)

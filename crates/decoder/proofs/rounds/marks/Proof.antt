@@ -1,0 +1,22 @@
+-- `marks`: the tests of each half.
+use native.Mathlib.Omega.{arith}
+use borrow.Author.Needs.{needs}
+use Rattle.ring.proofs.Levels.{sizes}
+use Rattle.decoder.proofs.rounds.marks.Statement.{statement}
+use Rattle.decoder.proofs.rounds.marks.Tie as tie
+
+returns : tie.Need-returns
+returns c =
+    let r = c .before .before .before .before .before .before .block .ensures in
+    (rw r at (c .before .before .reaching .ensures), rw r at (c .reaching2 .ensures))
+
+pub marks-spec : {M : Type 1} → statement M
+marks-spec =
+    tie.close
+    (tie.spec
+    (λ c κs. search needs)
+    (λ c. search needs)
+    (λ c κs. (omega (arith, c .before .before .before .block .ensures, sizes (c .before .before .before .before .args .level)), c .before .before .before .before .pre .0))
+    (λ c. search needs)
+    (λ c κs. (omega (arith, c .before .before .before .before .before .block .ensures, sizes (c .before .before .before .before .before .before .args .level)), c .before .before .before .before .before .before .pre .1))
+    returns)

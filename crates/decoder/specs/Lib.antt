@@ -1,0 +1,4 @@
+pub mod Counting
+pub mod Decoder
+pub mod PrivateKey
+pub mod Working

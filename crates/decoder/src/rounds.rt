@@ -1,0 +1,191 @@
+// Black-Gray-Flip: from a syndrome and a private key the error, in five rounds that always run.
+use crate::counters;
+use crate::halves::Halves;
+use crate::halves::among;
+use crate::halves::flipped;
+use crate::halves::nothing;
+use crate::halves::without;
+use crate::private_key::Key;
+use ring::WORDS;
+use ring::level::level_of;
+use ring::size;
+use ring::sparse::sparse;
+use ring::words;
+ghost use mathlib.Core.Path.{_≡_};
+ghost use mathlib.Core.Bool.{_&&_};
+ghost use Prim.Native.Nat.{_≤_};
+ghost use lib.Dec.{ltb, leb};
+ghost use lib.ListN.{length, getD};
+ghost use Rattle.hashing.specs.Lists.{bits};
+ghost use Rattle.ring.specs.Levels.{levelOf};
+ghost use Rattle.ring.specs.Polynomials.{InRing};
+ghost use Rattle.ring.specs.Polynomials;
+ghost use Rattle.decoder.specs.Decoder;
+ghost use Rattle.decoder.specs.Working.{keyOf, Good, pairOf, Inside, Counted};
+
+const ROUNDS: usize = 5;
+
+pub struct Counts {
+    pub c0: [u8; 24704],
+    pub c1: [u8; 24704],
+}
+
+// The residual of an error, anew from the syndrome.
+fn residual(level: u32, key: Key, s: [u64; WORDS], e: Halves) -> [u64; WORDS]
+    requires { ⌜ Good (levelOf level) key ⌝ ∗ ⌜ InRing (levelOf level .r) (bits 64 s) × Inside (levelOf level) e ⌝ }
+    ensures { λ x. ⌜ bits 64 x ≡ Decoder.residual (levelOf level .r) (keyOf (levelOf level) key) (bits 64 s) (pairOf e) ⌝ }
+{
+    let r = size::block(level);
+    let d = size::key_weight(level);
+    let n = r / 64 + 1;
+    let h0 = key.h0;
+    let h1 = key.h1;
+    let e0 = e.e0;
+    let e1 = e.e1;
+    let p0 = sparse(r, &h0, d, e0);
+    let p1 = sparse(r, &h1, d, e1);
+    words::sum(s, words::sum(p0, p1, n), n)
+}
+
+// The counters of both halves, from the same rows.
+fn counted(level: u32, key: Key, x: [u64; WORDS]) -> Counts
+    requires { ⌜ Good (levelOf level) key ⌝ }
+    ensures { λ c.
+        ⌜ Counted (levelOf level .r) (keyOf (levelOf level) key .half0) (bits 64 x) (c .c0)
+        × Counted (levelOf level .r) (keyOf (levelOf level) key .half1) (bits 64 x) (c .c1) ⌝ }
+{
+    let r = size::block(level);
+    let d = size::key_weight(level);
+    let s = counters::rows(r, x);
+    let h0 = key.h0;
+    let h1 = key.h1;
+    let c0 = counters::counters(r, &h0, d, &s);
+    let c1 = counters::counters(r, &h1, d, &s);
+    Counts { c0: c0, c1: c1 }
+}
+
+// The bits of both halves whose counter reaches a bound.
+fn marks(level: u32, c: Counts, bound: u8) -> Halves
+    requires { ⌜ (length (c .c0) ≡ 24704) × (length (c .c1) ≡ 24704) ⌝ }
+    ensures { λ m. ⌜ (bits 64 (m .e0) ≡ (λ j. ltb j (levelOf level .r) && leb bound (getD (c .c0) j 0)))
+        × (bits 64 (m .e1) ≡ (λ j. ltb j (levelOf level .r) && leb bound (getD (c .c1) j 0))) ⌝ }
+{
+    let r = size::block(level);
+    let c0 = c.c0;
+    let c1 = c.c1;
+    let e0 = counters::reaching(r, &c0, bound);
+    let e1 = counters::reaching(r, &c1, bound);
+    Halves { e0: e0, e1: e1 }
+}
+
+// The same from a residual.
+fn reaching(level: u32, key: Key, x: [u64; WORDS], bound: u8) -> Halves
+    requires { ⌜ Good (levelOf level) key ⌝ }
+    ensures { λ m. ⌜ pairOf m ≡ Decoder.reaching (levelOf level .r) (keyOf (levelOf level) key) (bits 64 x) bound ⌝ }
+{
+    marks(level, counted(level, key, x), bound)
+}
+
+// The threshold of a residual of weight s.
+fn threshold(level: u32, s: usize) -> u8
+    requires { ⌜ s ≤ levelOf level .r ⌝ }
+    ensures { λ t. ⌜ t ≡ Decoder.threshold (levelOf level) s ⌝ }
+{
+    let l = level_of(level);
+    let t = (l.slope * s + l.offset) / l.divisor;
+    if t < l.floor {
+        return l.floor as u8;
+    }
+    t as u8
+}
+
+// The weight of a residual.
+fn ones(level: u32, x: [u64; WORDS]) -> usize
+    requires { ⌜ InRing (levelOf level .r) (bits 64 x) ⌝ }
+    ensures { λ n. ⌜ n ≡ Polynomials.weight (levelOf level .r) (bits 64 x) ⌝ }
+{
+    words::weight(x, size::block(level) / 64 + 1)
+}
+
+// The bound of a round from the residual at its start.
+fn bound_of(level: u32, x: [u64; WORDS]) -> u8
+    requires { ⌜ InRing (levelOf level .r) (bits 64 x) ⌝ }
+    ensures { λ t. ⌜ t ≡ Decoder.threshold (levelOf level) (Polynomials.weight (levelOf level .r) (bits 64 x)) ⌝ }
+{
+    threshold(level, ones(level, x))
+}
+
+// One round: all counters are taken from the residual at its start.
+fn round(level: u32, key: Key, s: [u64; WORDS], e: Halves) -> Halves
+    requires { ⌜ Good (levelOf level) key ⌝ ∗ ⌜ InRing (levelOf level .r) (bits 64 s) × Inside (levelOf level) e ⌝ }
+    ensures { λ f. ⌜ pairOf f ≡ Decoder.round (levelOf level) (keyOf (levelOf level) key) (bits 64 s) (pairOf e) ⌝ }
+{
+    let x = residual(level, key, s, e);
+    let black = reaching(level, key, x, bound_of(level, x));
+    flipped(level, e, black)
+}
+
+// Flips those of the marked bits that still reach the masked bound.
+fn masked_step(level: u32, key: Key, s: [u64; WORDS], marked: Halves, e: Halves) -> Halves
+    requires { ⌜ Good (levelOf level) key ⌝ ∗ ⌜ InRing (levelOf level .r) (bits 64 s) × Inside (levelOf level) e ⌝ }
+    ensures { λ f. ⌜ pairOf f ≡ Decoder.maskedStep (levelOf level) (keyOf (levelOf level) key) (bits 64 s) (pairOf marked) (pairOf e) ⌝ }
+{
+    let x = residual(level, key, s, e);
+    let bound = (size::key_weight(level) + 1) / 2 + 1;
+    let again = reaching(level, key, x, bound as u8);
+    flipped(level, e, among(level, marked, again))
+}
+
+// Round 1: the same counters mark the black bits and the gray ones.
+fn first_round(level: u32, key: Key, s: [u64; WORDS], e: Halves) -> Halves
+    requires { ⌜ Good (levelOf level) key ⌝ ∗ ⌜ InRing (levelOf level .r) (bits 64 s) × Inside (levelOf level) e ⌝ }
+    ensures { λ f. ⌜ pairOf f ≡ Decoder.firstRound (levelOf level) (keyOf (levelOf level) key) (bits 64 s) (pairOf e) ⌝ }
+{
+    let x = residual(level, key, s, e);
+    let t = bound_of(level, x);
+    let c = counted(level, key, x);
+    let black = marks(level, c, t);
+    let gray = without(level, marks(level, c, t - 3), black);
+    let first = flipped(level, e, black);
+    let second = masked_step(level, key, s, black, first);
+    masked_step(level, key, s, gray, second)
+}
+
+// All five rounds run, whatever is left.
+fn rounds(level: u32, key: Key, s: [u64; WORDS]) -> Halves
+    requires { ⌜ Good (levelOf level) key ⌝ ∗ ⌜ InRing (levelOf level .r) (bits 64 s) ⌝ }
+    ensures { λ e. ⌜ pairOf e ≡ Decoder.decoded (levelOf level) (keyOf (levelOf level) key) (bits 64 s) ⌝ }
+{
+    let mut e = first_round(level, key, s, nothing());
+    let mut i = 1;
+    while i < ROUNDS {
+        let next = round(level, key, s, e);
+        e = next;
+        i += 1;
+    }
+    e
+}
+
+pub struct Found {
+    pub failed: bool,
+    pub e0: [u64; WORDS],
+    pub e1: [u64; WORDS],
+}
+
+// The error after five rounds, and whether a residual is left.
+pub fn decoded(level: u32, key: Key, s: [u64; WORDS]) -> Found
+    requires { ⌜ Good (levelOf level) key ⌝ ∗ ⌜ InRing (levelOf level .r) (bits 64 s) ⌝ }
+    ensures { λ found. ⌜ (found .failed ≡ Decoder.failed (levelOf level) (keyOf (levelOf level) key) (bits 64 s))
+        × (bits 64 (found .e0) ≡ Decoder.decoded (levelOf level) (keyOf (levelOf level) key) (bits 64 s) .half0)
+        × (bits 64 (found .e1) ≡ Decoder.decoded (levelOf level) (keyOf (levelOf level) key) (bits 64 s) .half1) ⌝ }
+{
+    let e = rounds(level, key, s);
+    let left = ones(level, residual(level, key, s, e));
+    let e0 = e.e0;
+    let e1 = e.e1;
+    Found {
+        failed: 0 < left,
+        e0: e0,
+        e1: e1,
+    }
+}

@@ -1,0 +1,48 @@
+// The numbers of a level that lengths and loops go by.
+use crate::level::level_of;
+ghost use mathlib.Core.Path.{_≡_};
+ghost use Rattle.ring.specs.Levels.{levelOf, polyBytes, ciphertextBytes, privateBytes};
+
+pub const MESSAGE: usize = 32;
+
+pub const SEED: usize = 64;
+
+pub fn block(level: u32) -> usize
+    ensures { λ n. ⌜ n ≡ levelOf level .r ⌝ }
+{
+    let l = level_of(level);
+    l.r
+}
+
+pub fn key_weight(level: u32) -> usize
+    ensures { λ n. ⌜ n ≡ levelOf level .d ⌝ }
+{
+    let l = level_of(level);
+    l.d
+}
+
+pub fn error_weight(level: u32) -> usize
+    ensures { λ n. ⌜ n ≡ levelOf level .t ⌝ }
+{
+    let l = level_of(level);
+    l.t
+}
+
+pub fn polynomial(level: u32) -> usize
+    ensures { λ n. ⌜ n ≡ polyBytes (levelOf level) ⌝ }
+{
+    (block(level) + 7) / 8
+}
+
+pub fn ciphertext(level: u32) -> usize
+    ensures { λ n. ⌜ n ≡ ciphertextBytes (levelOf level) ⌝ }
+{
+    polynomial(level) + MESSAGE
+}
+
+pub fn private_key(level: u32) -> usize
+    ensures { λ n. ⌜ n ≡ privateBytes (levelOf level) ⌝ }
+{
+    let d = key_weight(level);
+    2 * (d + d) + MESSAGE
+}
