@@ -14,7 +14,7 @@ use Rattle.ring.specs.Levels.{Level, level1, level3, levelOf}
 use Rattle.ring.specs.Polynomials.{Poly, InRing, flip, add, weight}
 use Rattle.ring.proofs.Levels.{each, sizes}
 use Rattle.ring.proofs.Ring
-use Rattle.decoder.specs.Decoder.{counter, threshold, nothing, residual, reaching, among, without, flipped, black, round, maskedStep, firstRound, after, decoded, Pair}
+use Rattle.decoder.specs.Decoder.{counter, threshold, nothing, residual, reaching, among, without, flipped, black, round, maskedStep, firstRound, after, decoded, failed, found, Pair}
 use Rattle.decoder.specs.Working.{Counted}
 use Rattle.ring.proofs.Weights.{weight-ext, weight-none, weight-add}
 
@@ -59,6 +59,23 @@ module _ (l : Level) (h : Pair) (s : Poly) where
   pub decoded-in : InPair (l .r) (decoded l h s)
   unfolding decoded
   decoded-in = after-in 5
+
+  pub found-in : InPair (l .r) (found l h s)
+  unfolding found nothing
+  found-in = go (failed l h s)
+    where
+      go : (t : Bool) → InPair (l .r) (elim t [ true ↦ nothing | false ↦ decoded l h s ])
+      go true = (λ k past. refl, λ k past. refl)
+      go false = decoded-in
+
+-- what is found, by whether a residual is left
+pub found-of : (l : Level) (h : Pair) (s : Poly) → failed l h s ≡ false → found l h s ≡ decoded l h s
+unfolding found
+found-of l h s e = rw (e, found)
+
+pub found-none : (l : Level) (h : Pair) (s : Poly) → failed l h s ≡ true → found l h s ≡ nothing
+unfolding found
+found-none l h s e = rw (e, found)
 
 pub inside-by : (r : ℕ) {e f : Pair} → e ≡ f → InPair r f → InPair r e
 inside-by r same inside = rw same inside

@@ -1,6 +1,6 @@
 -- How the decoder's code holds a key, an error and the counters of a round. No public promise cites this file. Assumes nothing.
 use mathlib.Core.Path.{_≡_}
-use mathlib.Core.Bool.{true}
+use mathlib.Core.Bool.{Bool, true, false}
 use mathlib.Core.List.{List}
 use Prim.Native.Nat.{ℕ, _<_}
 use lib.ListN.{length, getD, take}
@@ -9,7 +9,7 @@ use Rattle.ring.specs.Levels.{Level}
 use Rattle.ring.specs.Polynomials.{Poly, InRing, support}
 use Rattle.decoder.specs.declared.halves
 use Rattle.decoder.specs.declared.private_key
-use Rattle.decoder.specs.Decoder.{counter, Pair}
+use Rattle.decoder.specs.Decoder.{nothing, counter, Pair}
 use Rattle.decoder.specs.PrivateKey.{risingFrom}
 
 -- the first d positions of each half
@@ -33,3 +33,7 @@ Inside l e = InRing (l .r) (bits 64 (e .e0)) × InRing (l .r) (bits 64 (e .e1))
 -- byte j is the counter of bit j
 abbrev pub Counted : ℕ → Poly → Poly → List ℕ → Type 0
 Counted r h res count = (length count ≡ 24704) × ((j : ℕ) → j < r → getD count j 0 ≡ counter r h res j)
+
+-- what is kept of an error: nothing after a failure
+abbrev pub kept : Bool → Pair → Pair
+kept failed e = elim failed [ true ↦ nothing | false ↦ e ]

@@ -4,6 +4,7 @@ pub mod halves;
 pub mod private_key;
 pub mod rounds;
 
+pub use private_key::Key;
 pub use private_key::is_good;
 pub use private_key::read_key;
-pub use rounds::decoded;
+pub use rounds::find;

@@ -21,6 +21,7 @@ ghost use Rattle.ring.specs.Levels.{levelOf};
 ghost use Rattle.ring.specs.Polynomials.{InRing};
 ghost use Rattle.ring.specs.Polynomials;
 ghost use Rattle.decoder.specs.Decoder;
+ghost use Rattle.decoder.specs.Working;
 ghost use Rattle.decoder.specs.Working.{keyOf, Good, pairOf, Inside, Counted};
 
 const ROUNDS: usize = 5;
@@ -166,25 +167,36 @@ fn rounds(level: u32, key: Key, s: [u64; WORDS]) -> Halves
     e
 }
 
+// The error of a decoding that did not fail, and no error after one that did.
+fn kept(failed: bool, e: Halves) -> Halves
+    ensures { λ k. ⌜ pairOf k ≡ Working.kept failed (pairOf e) ⌝ }
+{
+    if failed {
+        return nothing();
+    }
+    e
+}
+
 pub struct Found {
     pub failed: bool,
     pub e0: [u64; WORDS],
     pub e1: [u64; WORDS],
 }
 
-// The error after five rounds, and whether a residual is left.
-pub fn decoded(level: u32, key: Key, s: [u64; WORDS]) -> Found
+// Whether a residual is left after five rounds, and what was found.
+pub fn find(level: u32, key: Key, s: [u64; WORDS]) -> Found
     requires { ⌜ Good (levelOf level) key ⌝ ∗ ⌜ InRing (levelOf level .r) (bits 64 s) ⌝ }
     ensures { λ found. ⌜ (found .failed ≡ Decoder.failed (levelOf level) (keyOf (levelOf level) key) (bits 64 s))
-        × (bits 64 (found .e0) ≡ Decoder.decoded (levelOf level) (keyOf (levelOf level) key) (bits 64 s) .half0)
-        × (bits 64 (found .e1) ≡ Decoder.decoded (levelOf level) (keyOf (levelOf level) key) (bits 64 s) .half1) ⌝ }
+        × (bits 64 (found .e0) ≡ Decoder.found (levelOf level) (keyOf (levelOf level) key) (bits 64 s) .half0)
+        × (bits 64 (found .e1) ≡ Decoder.found (levelOf level) (keyOf (levelOf level) key) (bits 64 s) .half1) ⌝ }
 {
     let e = rounds(level, key, s);
-    let left = ones(level, residual(level, key, s, e));
-    let e0 = e.e0;
-    let e1 = e.e1;
+    let failed = 0 < ones(level, residual(level, key, s, e));
+    let error = kept(failed, e);
+    let e0 = error.e0;
+    let e1 = error.e1;
     Found {
-        failed: 0 < left,
+        failed: failed,
         e0: e0,
         e1: e1,
     }

@@ -24,6 +24,7 @@ use Rattle.ring.proofs.Layouts.{bytesOf-length, bytesOf-bits, pad-rule}
 use Rattle.ring.proofs.Parity.{flip-self, flip-false}
 use Rattle.ring.proofs.Ring
 use Rattle.ring.proofs.Bools.{both-true}
+use Rattle.decoder.proofs.Laws.{found-of, found-none}
 use Rattle.decoder.specs.Decoder.{nothing, residual, reaching, among, flipped, black, round, maskedStep, firstRound, after, decoded, failed, found, Pair}
 use Rattle.exchange.specs.Fits.{Bytes, WellFormed, Fits}
 use Rattle.decoder.specs.PrivateKey.{secret, sigma}
@@ -47,15 +48,6 @@ pub same-refl : (r : ℕ) (a : Poly) → same r a a ≡ true
 unfolding same
 same-refl zero a = refl
 same-refl (suc r) a = rw (same-refl r a, flip-self (a r))
-
--- what opening takes for the error
-found-of : (l : Level) (h : Pair) (s : Poly) → failed l h s ≡ false → found l h s ≡ decoded l h s
-unfolding found
-found-of l h s e = rw (e, found)
-
-found-none : (l : Level) (h : Pair) (s : Poly) → failed l h s ≡ true → found l h s ≡ nothing
-unfolding found
-found-none l h s e = rw (e, found)
 
 module _ (l : Level) {public private c m : List ℕ} where
   -- the message that opening works out of m's own error is m

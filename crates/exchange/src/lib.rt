@@ -118,13 +118,13 @@ pub fn decode(level: u32, private_key: &[u8], syndrome: &[u8], e0: &mut [u8], e1
     if !decoder::is_good(level, key) {
         return refuse(4, e0, e1);
     }
-    let found = decoder::decoded(level, key, words::load(syndrome));
-    if found.failed {
-        return refuse(6, e0, e1);
-    }
+    let found = decoder::find(level, key, words::load(syndrome));
     let f0 = found.e0;
     let f1 = found.e1;
     words::store(f0, e0);
     words::store(f1, e1);
+    if found.failed {
+        return 6;
+    }
     0
 }

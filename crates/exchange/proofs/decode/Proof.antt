@@ -1,27 +1,29 @@
--- `decode` goes down document 01's column, and gives the decoder's error where no number applies.
+-- `decode` goes down document 01's column, and gives what the decoder finds: its error, or zeros with 6.
 use mathlib.Core.Path.{_≡_, sym, ap, ap₂, _∙_}
-use mathlib.Core.Bool.{_&&_}
+use mathlib.Core.Bool.{false, _&&_}
 use mathlib.Core.List.{List, [], _∷_}
-use Prim.Native.Nat.{ℕ}
+use Prim.Native.Nat.{ℕ, _<_}
 use native.Mathlib.Omega.{arith}
-use lib.ListN.{length}
+use lib.ListN.{length, replicate, length-replicate, getD-replicate}
+use lib.Seq.{ext-getD}
 use borrow.Author.Needs.{needs}
 use borrow.Author.Tests.{not-false}
 use Rattle.hashing.specs.Answers.{firstOf, content, settle}
 use Rattle.hashing.specs.Answers.Outcome.{gives}
-use Rattle.hashing.specs.Lists.{bits}
-use Rattle.ring.specs.Bytes.{listOf, bytesOf, byteLength, padSet}
+use Rattle.hashing.specs.Lists.{tab, bits}
+use Rattle.hashing.proofs.Lists.{length-tab, getD-tab}
+use Rattle.ring.specs.Bytes.{number, listOf, bytesOf, byteLength, padSet}
 use Rattle.ring.specs.Levels.{levelOf, polyBytes, privateBytes}
 use Rattle.ring.specs.Polynomials.{Poly, InRing, support}
 use Rattle.ring.proofs.Layouts.{pad-rule}
-use Rattle.decoder.specs.Decoder.{decoded, failed, Pair}
+use Rattle.decoder.specs.Decoder.{nothing, failed, found, Pair}
 use Rattle.decoder.specs.PrivateKey.{secret, risingFrom, goodKey}
 use Rattle.exchange.specs.Promises.{differs, decode-says}
 use Rattle.decoder.specs.Working.{keyOf}
 use Rattle.ring.proofs.Bools.{both-true, both-false}
 use Rattle.exchange.proofs.Lengths.{agree}
 use Rattle.ring.proofs.Levels.{sizes}
-use Rattle.decoder.proofs.Laws.{pair-path}
+use Rattle.decoder.proofs.Laws.{pair-path, found-of, found-none}
 use Rattle.exchange.proofs.decode.Statement.{statement}
 use Rattle.exchange.proofs.decode.Tie as tie
 
@@ -146,8 +148,8 @@ load-requires c κs =
     let long = c .before .before .before .before .before .before in
     omega (arith, lengths long .1, sizes (long .before .before .before .before .before .before .before .before .before .args .level))
 
-decoded-requires : tie.Need-decoded-requires
-decoded-requires c κs =
+find-requires : tie.Need-find-requires
+find-requires c κs =
     let tested = c .before in
     let read = tested .before .before .read-key .ensures in
     let rise = both-true _ _ (sym (tested .before .is-good .ensures) ∙ not-false _ (tested .if4 .left)) in
@@ -160,72 +162,57 @@ key-is : (c : tie.After-read-key) →
 unfolding secret
 key-is c = pair-path (ap support (c .read-key .ensures .0 .1)) (ap support (c .read-key .ensures .1 .1))
 
-failed-is : (c : tie.After-decoded) →
+failed-is : (c : tie.After-find) →
     let given = c .before .before .before .before .before .before .before .before .before .before .before .before .before .before .before .before .before .args in
     let l = levelOf (given .level) in
-    c .decoded .result .failed ≡ failed l (secret l (given .private-key .now)) (bits 8 (given .syndrome .now))
+    c .find .result .failed ≡ failed l (secret l (given .private-key .now)) (bits 8 (given .syndrome .now))
 failed-is c =
     let l = levelOf (c .before .before .before .before .before .before .before .before .before .before .before .before .before .before .before .before .before .args .level) in
-    c .decoded .ensures .0 ∙ ap₂ (failed l) (key-is (c .before .before .before .before)) (c .before .load .ensures)
+    c .find .ensures .0 ∙ ap₂ (failed l) (key-is (c .before .before .before .before)) (c .before .load .ensures)
 
-found-is : (c : tie.After-decoded) →
+found-is : (c : tie.After-find) →
     let given = c .before .before .before .before .before .before .before .before .before .before .before .before .before .before .before .before .before .args in
     let l = levelOf (given .level) in
-    let e = decoded l (secret l (given .private-key .now)) (bits 8 (given .syndrome .now)) in
-    (bits 64 (c .decoded .result .e0) ≡ e .half0) × (bits 64 (c .decoded .result .e1) ≡ e .half1)
+    let e = found l (secret l (given .private-key .now)) (bits 8 (given .syndrome .now)) in
+    (bits 64 (c .find .result .e0) ≡ e .half0) × (bits 64 (c .find .result .e1) ≡ e .half1)
 found-is c =
     let l = levelOf (c .before .before .before .before .before .before .before .before .before .before .before .before .before .before .before .before .before .args .level) in
     let h = key-is (c .before .before .before .before) in
     let s = c .before .load .ensures in (
-      c .decoded .ensures .1 ∙ ap₂ (λ (h : Pair) (s : Poly). decoded l h s .half0) h s,
-      c .decoded .ensures .2 ∙ ap₂ (λ (h : Pair) (s : Poly). decoded l h s .half1) h s,
+      c .find .ensures .1 ∙ ap₂ (λ (h : Pair) (s : Poly). found l h s .half0) h s,
+      c .find .ensures .2 ∙ ap₂ (λ (h : Pair) (s : Poly). found l h s .half1) h s,
     )
 
-returns-5 : tie.Need-returns-5
-unfolding decode-says settle firstOf content differs
-returns-5 c =
-    let refused = c .before .before .before .before in
-    let tested = refused .before .before .before in
-    let good = tested .before .before .before in
-    let padded = good .before .before .before in
-    let long = padded .before .before .before in
-    let level = long .before .before .before in
-    rw (
-      ← level .before .known .ensures,
-      level .if1 .left,
-      ← long .before .private-key .ensures,
-      ← long .before .before .polynomial .ensures,
-      long .if2 .left,
-      ← pad-is (padded .before),
-      padded .if3 .left,
-      ← good-is (good .before),
-      good .if4 .left,
-      ← failed-is (tested .before),
-      tested .if5 .taken,
-      refused .refuse5 .ensures .0,
-      refused .refuse5 .ensures .1,
-      refused .refuse5 .ensures .2,
-    )
+-- the bytes of no error
+listOf-none : (n : ℕ) → listOf 8 n (λ k. false) ≡ replicate n 0
+unfolding listOf number
+listOf-none n =
+    let none : ℕ → ℕ = λ i. 0 in
+    ext-getD 0 (tab n none) (replicate n 0) (length-tab n none ∙ sym (length-replicate n 0))
+    (λ i below.
+    let within : i < n = rw (length-tab n none) at below in
+    getD-tab n none 0 i within ∙ sym (getD-replicate n i 0 0 within))
 
 store-requires : tie.Need-store-requires
 store-requires c κs =
-    let long = c .before .before .before .before .before .before .before .before .before .before .before .before in
+    let long = c .before .before .before .before .before .before .before .before .before .before .before in
     omega (arith, lengths long .2, sizes (long .before .before .before .before .before .before .before .before .before .args .level))
 
 store-requires-2 : tie.Need-store-requires-2
 store-requires-2 c κs =
-    let long = c .before .before .before .before .before .before .before .before .before .before .before .before .before .before .before .before in
+    let long = c .before .before .before .before .before .before .before .before .before .before .before .before .before .before .before in
     omega (arith, lengths long .3, sizes (long .before .before .before .before .before .before .before .before .before .args .level))
 
-returns-6 : tie.Need-returns-6
-unfolding decode-says settle firstOf content differs bytesOf
-returns-6 c =
-    let tested = c .before .before .before .before .before .before .before .before .before .before in
-    let good = tested .before .before .before in
+returns-5 : tie.Need-returns-5
+unfolding decode-says settle firstOf content differs nothing
+returns-5 c =
+    let made = c .before .before .before .before .before .before .before .before .before .before .before in
+    let good = made .before .before in
     let padded = good .before .before .before in
     let long = padded .before .before .before in
     let level = long .before .before .before in
-    let value = found-is (tested .before) in
+    let e = found-none _ _ _ (sym (failed-is made) ∙ c .if5 .taken) in
+    let value = found-is made in
     rw (
       ← level .before .known .ensures,
       level .if1 .left,
@@ -236,12 +223,39 @@ returns-6 c =
       padded .if3 .left,
       ← good-is (good .before),
       good .if4 .left,
-      ← failed-is (tested .before),
-      tested .if5 .left,
+      ← failed-is made,
+      c .if5 .taken,
+    )
+    (ap₂ (λ (a b : List ℕ). gives 6 (a ∷ b ∷ []))
+    (c .before .before .before .before .before .before .before .store .ensures ∙ ap (listOf 8 _) (value .0 ∙ ap (λ (p : Pair). p .half0) e) ∙ listOf-none _)
+    (c .before .before .before .store2 .ensures ∙ ap (listOf 8 _) (value .1 ∙ ap (λ (p : Pair). p .half1) e) ∙ listOf-none _))
+
+returns-6 : tie.Need-returns-6
+unfolding decode-says settle firstOf content differs bytesOf
+returns-6 c =
+    let made = c .before .before .before .before .before .before .before .before .before .before .before in
+    let good = made .before .before in
+    let padded = good .before .before .before in
+    let long = padded .before .before .before in
+    let level = long .before .before .before in
+    let e = found-of _ _ _ (sym (failed-is made) ∙ c .if5 .left) in
+    let value = found-is made in
+    rw (
+      ← level .before .known .ensures,
+      level .if1 .left,
+      ← long .before .private-key .ensures,
+      ← long .before .before .polynomial .ensures,
+      long .if2 .left,
+      ← pad-is (padded .before),
+      padded .if3 .left,
+      ← good-is (good .before),
+      good .if4 .left,
+      ← failed-is made,
+      c .if5 .left,
     )
     (ap₂ (λ (a b : List ℕ). gives 0 (a ∷ b ∷ []))
-    (c .before .before .before .before .before .before .store .ensures ∙ ap₂ (listOf 8) (lengths long .2 ∙ sym (long .before .before .polynomial .ensures)) (value .0))
-    (c .before .before .store2 .ensures ∙ ap₂ (listOf 8) (lengths long .3 ∙ sym (long .before .before .polynomial .ensures)) (value .1)))
+    (c .before .before .before .before .before .before .before .store .ensures ∙ ap₂ (listOf 8) (lengths long .2 ∙ sym (long .before .before .polynomial .ensures)) (value .0 ∙ ap (λ (p : Pair). p .half0) e))
+    (c .before .before .before .store2 .ensures ∙ ap₂ (listOf 8) (lengths long .3 ∙ sym (long .before .before .polynomial .ensures)) (value .1 ∙ ap (λ (p : Pair). p .half1) e)))
 
 pub decode-spec : {M : Type 1} → statement M
 decode-spec =
@@ -271,13 +285,12 @@ decode-spec =
     (λ c. search needs)
     returns-4
     load-requires
-    decoded-requires
-    (λ c κs. search needs)
+    find-requires
+    store-requires
+    store-requires-2
     (λ c. search needs)
     (λ c. search needs)
     returns-5
-    store-requires
-    store-requires-2
     (λ c. search needs)
     (λ c. search needs)
     returns-6)
