@@ -14,7 +14,7 @@ use Rattle.ring.specs.Levels.{Level, level1, level3, levelOf}
 use Rattle.ring.specs.Polynomials.{Poly, InRing, flip, add, weight}
 use Rattle.ring.proofs.Levels.{each, sizes}
 use Rattle.ring.proofs.Ring
-use Rattle.decoder.specs.Decoder.{counter, threshold, nothing, residual, reaching, among, without, flipped, black, round, maskedStep, firstRound, after, decoded, failed, found, Pair}
+use Rattle.decoder.specs.Decoder.{counter, threshold, nothing, residual, reaching, among, without, flipped, black, gray, round, maskedStep, step, after, decoded, failed, found, Pair}
 use Rattle.decoder.specs.Working.{Counted}
 use Rattle.ring.proofs.Weights.{weight-ext, weight-none, weight-add}
 
@@ -50,11 +50,15 @@ module _ (l : Level) (h : Pair) (s : Poly) where
   unfolding round black
   round-in e he = flipped-in (l .r) e _ he (reaching-in (l .r) h _ _)
 
+  pub step-in : (i : ℕ) (e : Pair) → InPair (l .r) e → InPair (l .r) (step l h s i e)
+  unfolding step
+  step-in zero e he = masked-in _ _ (masked-in _ _ (round-in e he))
+  step-in (suc i) e he = round-in e he
+
   pub after-in : (n : ℕ) → InPair (l .r) (after l h s n)
-  unfolding after firstRound nothing
+  unfolding after nothing
   after-in zero = (λ k past. refl, λ k past. refl)
-  after-in (suc zero) = masked-in _ _ (masked-in _ _ (round-in _ (λ k past. refl, λ k past. refl)))
-  after-in (suc (suc n)) = round-in _ (after-in (suc n))
+  after-in (suc n) = step-in n _ (after-in n)
 
   pub decoded-in : InPair (l .r) (decoded l h s)
   unfolding decoded
@@ -84,10 +88,21 @@ pub residual-in : (r : ℕ) → 0 < r → (h : Pair) {s : Poly} (e : Pair) → I
 unfolding residual
 residual-in r pos h e hs = Ring.add-in r hs (Ring.add-in r (Ring.mul-in r pos _ _) (Ring.mul-in r pos _ _))
 
-pub after-more : (l : Level) (h : Pair) (s : Poly) (n : ℕ) → 1 ≤ n → after l h s (n + 1) ≡ round l h s (after l h s n)
+pub after-more : (l : Level) (h : Pair) (s : Poly) (n : ℕ) → after l h s (n + 1) ≡ step l h s n (after l h s n)
 unfolding after
-after-more l h s zero le = absurd (not-suc-le-zero le)
-after-more l h s (suc n) le = ap (after l h s) (add-one (suc n))
+after-more l h s n = ap (after l h s) (add-one n)
+
+-- "In round 1 only"
+module _ (l : Level) (h : Pair) (s : Poly) (e : Pair) where
+  pub step-first : (i : ℕ) → i ≤ 0 → step l h s i e ≡ maskedStep l h s (gray l h s e) (maskedStep l h s (black l h s e) (round l h s e))
+  unfolding step
+  step-first zero none = refl
+  step-first (suc i) none = absurd (not-suc-le-zero none)
+
+  pub step-later : (i : ℕ) → 0 < i → step l h s i e ≡ round l h s e
+  unfolding step
+  step-later zero some = absurd (not-suc-le-zero some)
+  step-later (suc i) some = refl
 
 -- the words up to that of r hold all of a polynomial of the ring
 pub in-words : (r : ℕ) {a : Poly} → InRing r a → InRing (64 * (r / 64 + 1)) a

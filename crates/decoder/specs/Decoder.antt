@@ -64,15 +64,15 @@ module _ (l : Level) (h : Pair) (s : Poly) where
   unfoldable pub maskedStep : Pair → Pair → Pair
   maskedStep marks e = flipped e (among marks (reaching (l .r) h (residual (l .r) h s e) (masked l)))
 
-  -- "In round 1 only, two more steps follow"
-  unfoldable pub firstRound : Pair → Pair
-  firstRound e = maskedStep (gray e) (maskedStep (black e) (round e))
+  -- "In round 1 only, two more steps follow": round i + 1
+  unfoldable pub step : ℕ → Pair → Pair
+  step zero e = maskedStep (gray e) (maskedStep (black e) (round e))
+  step (suc i) e = round e
 
   -- "Start with e = 0"; the error after n rounds
   unfoldable pub after : ℕ → Pair
   after zero = nothing
-  after (suc zero) = firstRound (after zero)
-  after (suc (suc n)) = round (after (suc n))
+  after (suc n) = step n (after n)
 
   -- "five rounds"
   unfoldable pub decoded : Pair

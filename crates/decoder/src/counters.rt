@@ -1,7 +1,7 @@
 // The counters of all bits of one half, one byte to a bit. The residual lies twice in a row, so that a position of h is one row of
 // bytes with no wrap, and after it come zeros, so that eight rows can always be added in one pass.
 use ring::WORDS;
-use ring::words::load;
+use ring::frame::zeros;
 ghost use mathlib.Core.Path.{_≡_};
 ghost use mathlib.Core.Logic.{_⊎_};
 ghost use mathlib.Core.Bool.{_&&_};
@@ -10,7 +10,7 @@ ghost use lib.Dec.{ltb, leb, eqb};
 ghost use lib.ListN.{length, getD, replicate};
 ghost use Rattle.hashing.specs.Lists.{tab, bitAt, bits};
 ghost use Rattle.decoder.specs.Counting.{total, rowOf};
-ghost use Rattle.ring.specs.Bytes.{number, listOf};
+ghost use Rattle.ring.specs.Bytes.{number};
 ghost use Rattle.ring.specs.Polynomials.{bit};
 
 // Bits of the largest polynomial, and three times as many.
@@ -144,25 +144,24 @@ fn add_rows(count: &mut [u8], s: &[u8], p: [usize; 8], r: usize)
     }
 }
 
-fn blank_counts() -> [u8; BITS]
+pub fn blank_counts() -> [u8; BITS]
     ensures { λ s. ⌜ s ≡ replicate 24704 0 ⌝ }
 {
     [0u8; BITS]
 }
 
-// For each bit below r, how many of the d positions have it set in the rows.
-pub fn counters(r: usize, positions: &[u16], d: usize, s: &[u8]) -> [u8; BITS]
+// For each bit below r, how many of the d positions have it set in the rows, added to counters that are 0.
+pub fn counters(r: usize, positions: &[u16], d: usize, s: &[u8], count: &mut [u8])
     requires { ⌜ (r < 24704) × (d ≤ length (now positions)) × (d ≤ 200) ⌝ ∗ ⌜ ((i : ℕ) → i < d → getD (now positions) i 0 < r) ⌝
-        ∗ ⌜ (length (now s) ≡ 74112) × ((k : ℕ) → getD (now s) k 0 ≤ 1) × ((k : ℕ) → 2 * r ≤ k → getD (now s) k 0 ≡ 0) ⌝ }
-    ensures { λ c. ⌜ (length c ≡ 24704) × ((j : ℕ) → j < r → getD c j 0 ≡ total d (λ i. getD (now (s .entry)) (getD (now (positions .entry)) i 0 + j) 0)) ⌝ }
+        ∗ ⌜ (length (now s) ≡ 74112) × ((k : ℕ) → getD (now s) k 0 ≤ 1) × ((k : ℕ) → 2 * r ≤ k → getD (now s) k 0 ≡ 0) ⌝
+        ∗ ⌜ now count ≡ replicate 24704 0 ⌝ }
+    ensures { λ _. ⌜ ((j : ℕ) → j < r → getD (now (count .exit)) j 0 ≡ total d (λ i. getD (now (s .entry)) (getD (now (positions .entry)) i 0 + j) 0)) ⌝ }
 {
-    let mut count = blank_counts();
     let mut i = 0;
     while i < d {
-        add_rows(&mut count, s, eight_rows(positions, d, 2 * r, i), r);
+        add_rows(count, s, eight_rows(positions, d, 2 * r, i), r);
         i += 8;
     }
-    count
 }
 
 // Which counters reach the bound, one byte to a bit.
@@ -204,21 +203,32 @@ fn eight_bits(m: &[u8], at: usize) -> u8
     ((z + (z >> 28)) % 256) as u8
 }
 
-fn pack(m: &[u8], out: &mut [u8])
-    requires { ⌜ (8 * length (now out) ≤ length (now m)) × ((k : ℕ) → getD (now m) k 0 ≤ 1) ⌝ }
-    ensures { λ _. ⌜ now (out .exit) ≡ listOf 8 (length (now (out .entry))) (λ k. eqb (getD (now (m .entry)) k 0) 1) ⌝ }
+// 64 bits that lie one to a byte.
+fn word_of(m: &[u8], at: usize) -> u64
+    requires { ⌜ (at + 64 ≤ length (now m)) × ((k : ℕ) → getD (now m) k 0 ≤ 1) ⌝ }
+    ensures { λ w. ⌜ ((e : ℕ) → e < 64 → bitAt w e ≡ eqb (getD (now (m .entry)) (at + e) 0) 1) ⌝ }
 {
-    let mut i = 0;
-    while i < out.len() {
-        out[i] = eight_bits(m, 8 * i);
-        i += 1;
+    let mut w = 0;
+    let mut k = 8;
+    while 0 < k {
+        k -= 1;
+        w = (w << 8) | eight_bits(m, at + 8 * k) as u64;
     }
+    w
 }
 
-fn blank_bytes() -> [u8; 3088]
-    ensures { λ s. ⌜ 3088 ≡ length s ⌝ }
+// The bits of n words, which lie one to a byte.
+fn packed(m: &[u8], n: usize) -> [u64; WORDS]
+    requires { ⌜ (n ≤ 386) × (64 * n ≤ length (now m)) × ((k : ℕ) → getD (now m) k 0 ≤ 1) × ((k : ℕ) → 64 * n ≤ k → getD (now m) k 0 ≡ 0) ⌝ }
+    ensures { λ x. ⌜ bits 64 x ≡ (λ k. eqb (getD (now (m .entry)) k 0) 1) ⌝ }
 {
-    [0u8; 3088]
+    let mut x = zeros();
+    let mut i = 0;
+    while i < n {
+        x[i] = word_of(m, 64 * i);
+        i += 1;
+    }
+    x
 }
 
 // The bits below r whose counter reaches the bound.
@@ -228,8 +238,5 @@ pub fn reaching(r: usize, count: &[u8], bound: u8) -> [u64; WORDS]
 {
     let mut m = blank_counts();
     tests(count, bound, r, &mut m);
-    let mut out = blank_bytes();
-    let n = r / 8 + 1;
-    pack(&m, &mut out[..n]);
-    load(&out[..n])
+    packed(&m, r / 64 + 1)
 }

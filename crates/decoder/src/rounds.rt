@@ -1,5 +1,6 @@
 // Black-Gray-Flip: from a syndrome and a private key the error, in five rounds that always run.
 use crate::counters;
+use crate::counters::blank_counts;
 use crate::halves::Halves;
 use crate::halves::among;
 use crate::halves::flipped;
@@ -15,7 +16,7 @@ ghost use mathlib.Core.Path.{_≡_};
 ghost use mathlib.Core.Bool.{_&&_};
 ghost use Prim.Native.Nat.{_≤_};
 ghost use lib.Dec.{ltb, leb};
-ghost use lib.ListN.{length, getD};
+ghost use lib.ListN.{length, getD, replicate};
 ghost use Rattle.hashing.specs.Lists.{bits};
 ghost use Rattle.ring.specs.Levels.{levelOf};
 ghost use Rattle.ring.specs.Polynomials.{InRing};
@@ -25,11 +26,6 @@ ghost use Rattle.decoder.specs.Working;
 ghost use Rattle.decoder.specs.Working.{keyOf, Good, pairOf, Inside, Counted};
 
 const ROUNDS: usize = 5;
-
-pub struct Counts {
-    pub c0: [u8; 24704],
-    pub c1: [u8; 24704],
-}
 
 // The residual of an error, anew from the syndrome.
 fn residual(level: u32, key: Key, s: [u64; WORDS], e: Halves) -> [u64; WORDS]
@@ -48,43 +44,43 @@ fn residual(level: u32, key: Key, s: [u64; WORDS], e: Halves) -> [u64; WORDS]
     words::sum(s, words::sum(p0, p1, n), n)
 }
 
-// The counters of both halves, from the same rows.
-fn counted(level: u32, key: Key, x: [u64; WORDS]) -> Counts
-    requires { ⌜ Good (levelOf level) key ⌝ }
-    ensures { λ c.
-        ⌜ Counted (levelOf level .r) (keyOf (levelOf level) key .half0) (bits 64 x) (c .c0)
-        × Counted (levelOf level .r) (keyOf (levelOf level) key .half1) (bits 64 x) (c .c1) ⌝ }
+// The counters of both halves, from the same rows, added to counters that are 0.
+fn count(level: u32, key: Key, x: [u64; WORDS], c0: &mut [u8], c1: &mut [u8])
+    requires { ⌜ Good (levelOf level) key ⌝ ∗ ⌜ (now c0 ≡ replicate 24704 0) × (now c1 ≡ replicate 24704 0) ⌝ }
+    ensures { λ _.
+        ⌜ Counted (levelOf level .r) (keyOf (levelOf level) key .half0) (bits 64 x) (now (c0 .exit))
+        × Counted (levelOf level .r) (keyOf (levelOf level) key .half1) (bits 64 x) (now (c1 .exit)) ⌝ }
 {
     let r = size::block(level);
     let d = size::key_weight(level);
     let s = counters::rows(r, x);
     let h0 = key.h0;
     let h1 = key.h1;
-    let c0 = counters::counters(r, &h0, d, &s);
-    let c1 = counters::counters(r, &h1, d, &s);
-    Counts { c0: c0, c1: c1 }
+    counters::counters(r, &h0, d, &s, c0);
+    counters::counters(r, &h1, d, &s, c1);
 }
 
 // The bits of both halves whose counter reaches a bound.
-fn marks(level: u32, c: Counts, bound: u8) -> Halves
-    requires { ⌜ (length (c .c0) ≡ 24704) × (length (c .c1) ≡ 24704) ⌝ }
-    ensures { λ m. ⌜ (bits 64 (m .e0) ≡ (λ j. ltb j (levelOf level .r) && leb bound (getD (c .c0) j 0)))
-        × (bits 64 (m .e1) ≡ (λ j. ltb j (levelOf level .r) && leb bound (getD (c .c1) j 0))) ⌝ }
+fn marks(level: u32, c0: &[u8], c1: &[u8], bound: u8) -> Halves
+    requires { ⌜ (length (now c0) ≡ 24704) × (length (now c1) ≡ 24704) ⌝ }
+    ensures { λ m. ⌜ (bits 64 (m .e0) ≡ (λ j. ltb j (levelOf level .r) && leb bound (getD (now (c0 .entry)) j 0)))
+        × (bits 64 (m .e1) ≡ (λ j. ltb j (levelOf level .r) && leb bound (getD (now (c1 .entry)) j 0))) ⌝ }
 {
     let r = size::block(level);
-    let c0 = c.c0;
-    let c1 = c.c1;
-    let e0 = counters::reaching(r, &c0, bound);
-    let e1 = counters::reaching(r, &c1, bound);
+    let e0 = counters::reaching(r, c0, bound);
+    let e1 = counters::reaching(r, c1, bound);
     Halves { e0: e0, e1: e1 }
 }
 
-// The same from a residual.
+// The bits that reach a bound in a residual.
 fn reaching(level: u32, key: Key, x: [u64; WORDS], bound: u8) -> Halves
     requires { ⌜ Good (levelOf level) key ⌝ }
     ensures { λ m. ⌜ pairOf m ≡ Decoder.reaching (levelOf level .r) (keyOf (levelOf level) key) (bits 64 x) bound ⌝ }
 {
-    marks(level, counted(level, key, x), bound)
+    let mut c0 = blank_counts();
+    let mut c1 = blank_counts();
+    count(level, key, x, &mut c0, &mut c1);
+    marks(level, &c0, &c1, bound)
 }
 
 // The threshold of a residual of weight s.
@@ -116,16 +112,6 @@ fn bound_of(level: u32, x: [u64; WORDS]) -> u8
     threshold(level, ones(level, x))
 }
 
-// One round: all counters are taken from the residual at its start.
-fn round(level: u32, key: Key, s: [u64; WORDS], e: Halves) -> Halves
-    requires { ⌜ Good (levelOf level) key ⌝ ∗ ⌜ InRing (levelOf level .r) (bits 64 s) × Inside (levelOf level) e ⌝ }
-    ensures { λ f. ⌜ pairOf f ≡ Decoder.round (levelOf level) (keyOf (levelOf level) key) (bits 64 s) (pairOf e) ⌝ }
-{
-    let x = residual(level, key, s, e);
-    let black = reaching(level, key, x, bound_of(level, x));
-    flipped(level, e, black)
-}
-
 // Flips those of the marked bits that still reach the masked bound.
 fn masked_step(level: u32, key: Key, s: [u64; WORDS], marked: Halves, e: Halves) -> Halves
     requires { ⌜ Good (levelOf level) key ⌝ ∗ ⌜ InRing (levelOf level .r) (bits 64 s) × Inside (levelOf level) e ⌝ }
@@ -137,17 +123,22 @@ fn masked_step(level: u32, key: Key, s: [u64; WORDS], marked: Halves, e: Halves)
     flipped(level, e, among(level, marked, again))
 }
 
-// Round 1: the same counters mark the black bits and the gray ones.
-fn first_round(level: u32, key: Key, s: [u64; WORDS], e: Halves) -> Halves
+// Round i + 1: all counters are taken from the residual at its start, and mark the black bits and the gray ones.
+fn step(level: u32, key: Key, s: [u64; WORDS], e: Halves, i: usize) -> Halves
     requires { ⌜ Good (levelOf level) key ⌝ ∗ ⌜ InRing (levelOf level .r) (bits 64 s) × Inside (levelOf level) e ⌝ }
-    ensures { λ f. ⌜ pairOf f ≡ Decoder.firstRound (levelOf level) (keyOf (levelOf level) key) (bits 64 s) (pairOf e) ⌝ }
+    ensures { λ f. ⌜ pairOf f ≡ Decoder.step (levelOf level) (keyOf (levelOf level) key) (bits 64 s) i (pairOf e) ⌝ }
 {
     let x = residual(level, key, s, e);
     let t = bound_of(level, x);
-    let c = counted(level, key, x);
-    let black = marks(level, c, t);
-    let gray = without(level, marks(level, c, t - 3), black);
+    let mut c0 = blank_counts();
+    let mut c1 = blank_counts();
+    count(level, key, x, &mut c0, &mut c1);
+    let black = marks(level, &c0, &c1, t);
     let first = flipped(level, e, black);
+    if 0 < i {
+        return first;
+    }
+    let gray = without(level, marks(level, &c0, &c1, t - 3), black);
     let second = masked_step(level, key, s, black, first);
     masked_step(level, key, s, gray, second)
 }
@@ -157,10 +148,10 @@ fn rounds(level: u32, key: Key, s: [u64; WORDS]) -> Halves
     requires { ⌜ Good (levelOf level) key ⌝ ∗ ⌜ InRing (levelOf level .r) (bits 64 s) ⌝ }
     ensures { λ e. ⌜ pairOf e ≡ Decoder.decoded (levelOf level) (keyOf (levelOf level) key) (bits 64 s) ⌝ }
 {
-    let mut e = first_round(level, key, s, nothing());
-    let mut i = 1;
+    let mut e = nothing();
+    let mut i = 0;
     while i < ROUNDS {
-        let next = round(level, key, s, e);
+        let next = step(level, key, s, e, i);
         e = next;
         i += 1;
     }

@@ -1,12 +1,12 @@
 -- Demand 3, over the definitions that the contracts cite, once for every level. Assumes nothing.
 use mathlib.Core.Path.{_≡_, refl, sym, ap, ap₂, _∙_, fun-ext}
-use mathlib.Core.Bool.{Bool, true, false, _&&_, and-false, true≢false}
+use mathlib.Core.Bool.{Bool, true, false, true≢false}
 use mathlib.Core.List.{List, _++_}
 use Prim.Native.Nat.{ℕ, zero, suc, _+_, _^_, _≤_, _<_}
 use native.Mathlib.Decide.{ℕ-discrete, decLt}
 use native.Mathlib.Nat.{not-suc-le-zero}
 use native.Mathlib.Omega.{arith}
-use borrow.Author.Tests.{le-ltb, ltb-false}
+use borrow.Author.Tests.{ltb-false}
 use lib.Bits.{bitXor, xor-self, xor-zero-r, xor-lt}
 use lib.Dec.{ltb, lit<}
 use lib.ListN.{length, getD, take, drop, length-take, length-drop, take-append-drop, List·getD-eq-default}
@@ -24,8 +24,8 @@ use Rattle.ring.proofs.Layouts.{bytesOf-length, bytesOf-bits, pad-rule}
 use Rattle.ring.proofs.Parity.{flip-self, flip-false}
 use Rattle.ring.proofs.Ring
 use Rattle.ring.proofs.Bools.{both-true}
-use Rattle.decoder.proofs.Laws.{found-of, found-none}
-use Rattle.decoder.specs.Decoder.{nothing, residual, reaching, among, flipped, black, round, maskedStep, firstRound, after, decoded, failed, found, Pair}
+use Rattle.decoder.proofs.Laws.{InPair, pair-path, below-in, decoded-in, found-of, found-none}
+use Rattle.decoder.specs.Decoder.{nothing, residual, decoded, failed, found, Pair}
 use Rattle.exchange.specs.Fits.{Bytes, WellFormed, Fits}
 use Rattle.decoder.specs.PrivateKey.{secret, sigma}
 use Rattle.exchange.specs.Opening.{syndromeOf, messageOf, sameError, opened}
@@ -73,45 +73,6 @@ at-most-one l {c = c} fits other =
 pub no-two : (l : Level) {public private c d m : List ℕ} → Fits l public private c m → Fits l public private d m → c ≡ d
 no-two l fits other = sym (fits .wraps) ∙ other .wraps
 
-abbrev InPair : ℕ → Pair → Type 0
-InPair r e = InRing r (e .half0) × InRing r (e .half1)
-
--- what is marked below r is in the ring
-below-in : (r : ℕ) (f : ℕ → Bool) → InRing r (λ j. ltb j r && f j)
-below-in r f k past = rw (le-ltb k r past)
-
-reaching-in : (r : ℕ) (h : Pair) (res : Poly) (bound : ℕ) → InPair r (reaching r h res bound)
-unfolding reaching
-reaching-in r h res bound = (below-in r _, below-in r _)
-
-flipped-in : (r : ℕ) (e f : Pair) → InPair r e → InPair r f → InPair r (flipped e f)
-unfolding flipped
-flipped-in r e f he hf = (Ring.add-in r (he .0) (hf .0), Ring.add-in r (he .1) (hf .1))
-
-among-in : (r : ℕ) (marks e : Pair) → InPair r e → InPair r (among marks e)
-unfolding among
-among-in r marks e he =
-    (λ k past. rw (he .0 k past) (and-false (marks .half0 k)), λ k past. rw (he .1 k past) (and-false (marks .half1 k)))
-
-module _ (l : Level) (h : Pair) (s : Poly) where
-  masked-in : (marks e : Pair) → InPair (l .r) e → InPair (l .r) (maskedStep l h s marks e)
-  unfolding maskedStep
-  masked-in marks e he = flipped-in (l .r) e _ he (among-in (l .r) marks _ (reaching-in (l .r) h _ _))
-
-  round-in : (e : Pair) → InPair (l .r) e → InPair (l .r) (round l h s e)
-  unfolding round black
-  round-in e he = flipped-in (l .r) e _ he (reaching-in (l .r) h _ _)
-
-  after-in : (n : ℕ) → InPair (l .r) (after l h s n)
-  unfolding after firstRound nothing
-  after-in zero = (λ k past. refl, λ k past. refl)
-  after-in (suc zero) = masked-in _ _ (masked-in _ _ (round-in _ (λ k past. refl, λ k past. refl)))
-  after-in (suc (suc n)) = round-in _ (after-in (suc n))
-
-  decoded-in : InPair (l .r) (decoded l h s)
-  unfolding decoded
-  decoded-in = after-in 5
-
 hashH-in : (l : Level) (m : List ℕ) → InPair (l .r) (hashH l m)
 unfolding hashH split
 hashH-in l m = (below-in (l .r) _, below-in (l .r) _)
@@ -129,9 +90,6 @@ weightless (suc r) a e k below = go (ℕ-discrete k r) (weightless r a (omega ar
     go : Dec (k ≡ r) → ((i : ℕ) → i < r → a i ≡ false) → a k ≡ false
     go (yes here) before = rw here (bit-false (a r) (omega arith))
     go (no there) before = before k (omega arith)
-
-pair-path : {e f : Pair} → e .half0 ≡ f .half0 → e .half1 ≡ f .half1 → e ≡ f
-pair-path p q = λ i. record { half0 = p i; half1 = q i }
 
 -- no bit is left where the decoder did not fail
 gone : (l : Level) (h : Pair) (s : Poly) → 0 < l .r → InRing (l .r) s → failed l h s ≡ false

@@ -1,6 +1,6 @@
 -- Laws of bits that lie one to a byte. Assumes nothing.
-use mathlib.Core.Path.{_≡_, refl, sym, ap, ap₂, _∙_, fun-ext}
-use mathlib.Core.Bool.{Bool, true, false, _&&_}
+use mathlib.Core.Path.{_≡_, refl, sym, ap, ap₂, _∙_}
+use mathlib.Core.Bool.{Bool, true, false, _||_, or-false}
 use mathlib.Core.List.{List, [], _∷_}
 use mathlib.Core.Logic.{_⊎_, inl, inr, ⊎-elim}
 use Prim.Native.Nat.{ℕ, zero, suc, _+_, _-_, _*_, _/_, _%_, _^_, _≤_, _<_, zero-le}
@@ -9,17 +9,17 @@ use native.Mathlib.Decide.{decLt}
 use native.Mathlib.Numerals.{towards-suc}
 use native.Mathlib.Omega.{arith}
 use borrow.Author.Tests.{eqb-true, lt-ltb, le-ltb}
-use lib.Bits.{bitAnd}
+use lib.Bits.{bitAnd, bitOr}
 use lib.Dec.{eqb, ltb, lit<}
 use lib.ListN.{length, getD, set, replicate, length-set, length-replicate, getD-replicate, List·getD-eq-default}
 use lib.Seq.{sets, getD-set-same, getD-set-other}
 use mir.Val.{boolByte}
 use Rattle.hashing.specs.Lists.{tab, bitAt, bits}
 use Rattle.hashing.proofs.Lists.{length-tab, getD-tab}
-use Rattle.hashing.proofs.Words.{bit-mod, bit-shr, bits-at}
-use Rattle.ring.specs.Bytes.{number, listOf}
+use Rattle.hashing.proofs.Words.{bit-or, bit-mod, bit-shl, bit-shl-below, bit-shr, bit-above, bits-at}
+use Rattle.ring.specs.Bytes.{number}
 use Rattle.ring.specs.Polynomials.{bit}
-use Rattle.ring.proofs.Layouts.{bits-listOf}
+use Rattle.ring.proofs.Binary.{bitAt-number, number-lt}
 use Rattle.decoder.specs.Counting.{total, rowOf}
 use Rattle.ring.proofs.Bools.{allBelow, checked}
 
@@ -122,6 +122,9 @@ getD-zeros n k = go (decLt k n)
     go (no past) =
         let out : length (replicate {A = ℕ} n 0) ≤ k = rw length-replicate (omega arith) in List·getD-eq-default (replicate n 0) 0 out
 
+pub blank-length : (n : ℕ) {l : List ℕ} → l ≡ replicate n 0 → length l ≡ n
+blank-length n e = ap length e ∙ length-replicate {A = ℕ} n 0
+
 -- eight of a kind
 pub tab-eight : (f : ℕ → ℕ) {a b c d e g h i : ℕ} → a ≡ f 0 → b ≡ f 1 → c ≡ f 2 → d ≡ f 3 → e ≡ f 4 → g ≡ f 5 → h ≡ f 6 → i ≡ f 7
     → (a ∷ b ∷ c ∷ d ∷ e ∷ g ∷ h ∷ i ∷ []) ≡ tab 8 f
@@ -196,16 +199,23 @@ pub bit-le : (b : Bool) → bit b ≤ 1
 bit-le true = le-refl 1
 bit-le false = zero-le
 
--- tests one to a byte, packed into n bytes
-pub packed-tests : (r n : ℕ) (f : ℕ → Bool) (m : List ℕ) → r ≤ n * 8 → ((k : ℕ) → getD m k 0 ≡ bit (ltb k r && f k))
-    → bits 8 (listOf 8 n (λ k. eqb (getD m k 0) 1)) ≡ (λ k. ltb k r && f k)
-packed-tests r n f m room tests =
-    ap (λ (a : ℕ → Bool). bits 8 (listOf 8 n a)) (fun-ext (λ k. ap (λ (x : ℕ). eqb x 1) (tests k) ∙ test (ltb k r && f k)))
-    ∙ bits-listOf 8 (lit< tt) n (λ k past. rw (le-ltb k r (omega arith)))
+-- a byte below the bytes that w has
+pub stacked : (f : ℕ → Bool) (w v e : ℕ) → v ≡ number 8 f → e < 64 → (8 ≤ e → bitAt w (e - 8) ≡ f e)
+    → bitAt (bitOr (w * 2 ^ 8 % 2 ^ 64) v) e ≡ f e
+stacked f w v e is h above =
+    bit-or (w * 2 ^ 8 % 2 ^ 64) v e ∙ ap (λ (c : Bool). c || bitAt v e) (bit-mod (w * 2 ^ 8) 64 e h) ∙ go (decLt e 8)
   where
-    test : (b : Bool) → eqb (bit b) 1 ≡ b
-    test true = refl
-    test false = refl
+    go : Dec (e < 8) → bitAt (w * 2 ^ 8) e || bitAt v e ≡ f e
+    go (yes low) = rw (bit-shl-below w 8 e low, is) (bitAt-number 8 f e low)
+    go (no high) =
+        let back : e ≡ e - 8 + 8 = omega arith in
+        let small : v < 2 ^ 8 = rw is (number-lt 8 f) in
+        ap₂ _||_ (ap (bitAt (w * 2 ^ 8)) back ∙ bit-shl w 8 (e - 8)) (bit-above v 8 e small (omega arith))
+        ∙ or-false (bitAt w (e - 8)) ∙ above (omega arith)
+
+pub test-bit : (b : Bool) → eqb (bit b) 1 ≡ b
+test-bit true = refl
+test-bit false = refl
 
 -- a quotient from its parts
 quotient : (n x u v : ℕ) → 0 < n → u < n → x ≡ u + n * v → x / n ≡ v

@@ -1,12 +1,12 @@
--- `exchange::counters::counters`: after i rows each counter is their sum; what is added past the last position is 0.
+-- `counters`: after i rows each counter is their sum; what is added past the last position is 0.
 use mathlib.Core.Path.{_≡_, sym, ap, ap₂, _∙_}
 use mathlib.Core.List.{List}
 use Prim.Native.Nat.{ℕ, _+_, _*_, _≤_, _<_, _-_}
 use native.Mathlib.Omega.{arith}
-use lib.ListN.{length, getD, length-replicate}
+use lib.ListN.{length, getD, replicate, length-replicate}
 use Rattle.hashing.proofs.Lists.{from-table}
 use Rattle.decoder.specs.Counting.{total, rowOf}
-use Rattle.decoder.proofs.counters.Laws.{total-ext, total-add, total-le, total-past, row-of, row-past, row-room, getD-zeros}
+use Rattle.decoder.proofs.counters.Laws.{total-ext, total-add, total-le, total-past, row-of, row-past, row-room, getD-zeros, blank-length}
 use Rattle.decoder.proofs.counters.counters.Statement.{statement}
 use Rattle.decoder.proofs.counters.counters.Tie as tie
 
@@ -23,11 +23,9 @@ abbrev μ-loop : tie.MeasureT-loop
 
 loop-holds : tie.Need-loop-holds Inv-loop μ-loop
 unfolding total
-loop-holds c = (
-  omega arith,
-  ap length (c .blank-counts .ensures) ∙ length-replicate {A = ℕ} 24704 0,
-  λ j h. ap (λ (l : List ℕ). getD l j 0) (c .blank-counts .ensures) ∙ getD-zeros 24704 j,
-)
+loop-holds c =
+    let blank = c .before .before .before .pre .1 .1 .1 in
+    (omega arith, blank-length 24704 blank, λ j h. ap (λ (l : List ℕ). getD l j 0) blank ∙ getD-zeros 24704 j)
 
 add-rows-requires : tie.Need-add-rows-requires Inv-loop μ-loop
 add-rows-requires c κs =
@@ -43,24 +41,24 @@ add-rows-requires c κs =
           from-table 8 (λ m. rowOf positions d (2 * r) (turn .i + m)) 0 (c .eight-rows .ensures) m h in
           let room : getD (c .eight-rows .result) m 0 + r ≤ length s = omega (arith, row-room positions r d (turn .i + m) (start .pre .1 .0)) in
           room),
-      start .pre .1 .1 .1,
+      start .pre .1 .1 .0 .1,
       λ j h.
-          omega (arith, turn .inv .2 j h, total-le (turn .i) (adds r positions d s j) (λ i. start .pre .1 .1 .1 (rowOf positions d (2 * r) i + j)), c .before .before .loop-test .taken, start .pre .0 .2),
+          omega (arith, turn .inv .2 j h, total-le (turn .i) (adds r positions d s j) (λ i. start .pre .1 .1 .0 .1 (rowOf positions d (2 * r) i + j)), c .before .before .loop-test .taken, start .pre .0 .2),
     )
 
 loop-again : tie.Need-loop-again Inv-loop μ-loop
 loop-again c =
-    let turn = c .before .before .before .before .before .loop in
-    let start = c .before .before .before .before .before .before .before .before .before in
+    let turn = c .before .before .before .before .before .before .loop in
+    let start = c .before .before .before .before .before .before .before .before .before .before in
     let positions = start .args .positions .now in
     let s = start .args .s .now in
     let r = start .args .r in
     let d = start .args .d in
-    let eight = c .before .before .eight-rows in (
+    let eight = c .before .before .before .eight-rows in (
       omega arith,
-      c .before .add-rows .kept .0 ∙ turn .inv .1,
+      c .before .before .add-rows .kept .0 ∙ turn .inv .1,
       λ j h.
-          c .before .add-rows .ensures j h
+          c .before .before .add-rows .ensures j h
           ∙ ap₂ _+_ (turn .inv .2 j h)
           (total-ext 8 (λ m. getD s (getD (eight .result) m 0 + j) 0) (λ m. adds r positions d s j (turn .i + m))
           (λ m small. ap (λ (at : ℕ). getD s (at + j) 0) (from-table 8 (λ m. rowOf positions d (2 * r) (turn .i + m)) 0 (eight .ensures) m small)))
@@ -74,20 +72,28 @@ returns c =
     let positions = start .args .positions .now in
     let s = start .args .s .now in
     let r = start .args .r in
-    let d = start .args .d in (
-      turn .inv .1,
-      λ j h.
-          turn .inv .2 j h
-          ∙ total-past d (turn .i) (adds r positions d s j) (omega arith)
-          (λ i past.
-          let end : 2 * r ≤ 2 * r + j = omega arith in
-          ap (λ (at : ℕ). getD s (at + j) 0) (row-past positions d (2 * r) i past) ∙ start .pre .1 .1 .2 (2 * r + j) end)
-          ∙ total-ext d (adds r positions d s j) (λ i. getD s (getD positions i 0 + j) 0)
-          (λ i below. ap (λ (at : ℕ). getD s (at + j) 0) (row-of positions d (2 * r) i below)),
-    )
+    let d = start .args .d in
+    λ j h.
+    turn .inv .2 j h
+    ∙ total-past d (turn .i) (adds r positions d s j) (omega arith)
+    (λ i past.
+    let end : 2 * r ≤ 2 * r + j = omega arith in
+    ap (λ (at : ℕ). getD s (at + j) 0) (row-past positions d (2 * r) i past) ∙ start .pre .1 .1 .0 .2 (2 * r + j) end)
+    ∙ total-ext d (adds r positions d s j) (λ i. getD s (getD positions i 0 + j) 0)
+    (λ i below. ap (λ (at : ℕ). getD s (at + j) 0) (row-of positions d (2 * r) i below))
 
 pub counters-spec : {M : Type 1} → statement M
 counters-spec =
     tie.close
-    (tie.spec Inv-loop μ-loop (λ c κs. tt) loop-holds (λ c. sym (c .before .before .loop .inv .1)) (λ c. omega arith) (λ c κs. (c .before .before .before .before .before .before .pre .0 .1, omega arith)) add-rows-requires (λ c. omega arith) (λ c. omega arith)
-    loop-again returns)
+    (tie.spec
+    Inv-loop
+    μ-loop
+    loop-holds
+    (λ c. omega arith)
+    (λ c κs. (c .before .before .before .before .before .before .pre .0 .1, omega arith))
+    add-rows-requires
+    (λ c. omega arith)
+    (λ c. omega arith)
+    loop-again
+    (λ c. c .before .loop .inv .1 ∙ sym (blank-length 24704 (c .before .before .before .before .before .pre .1 .1 .1)))
+    returns)

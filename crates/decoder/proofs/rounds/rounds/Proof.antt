@@ -4,54 +4,44 @@ use Prim.Native.Nat.{_-_, _≤_}
 use native.Mathlib.Omega.{arith}
 use Rattle.hashing.specs.Lists.{bits}
 use Rattle.ring.specs.Levels.{levelOf}
-use Rattle.decoder.specs.Decoder.{round, firstRound, after, decoded}
+use Rattle.decoder.specs.Decoder.{step, after, decoded}
 use Rattle.decoder.specs.Working.{keyOf, pairOf}
 use Rattle.decoder.proofs.Laws.{inside-by, after-in, after-more}
 use Rattle.decoder.proofs.rounds.rounds.Statement.{statement}
 use Rattle.decoder.proofs.rounds.rounds.Tie as tie
 
 abbrev Inv-loop : tie.InvT-loop
-Inv-loop level key s e₀ i₀ e i = (1 ≤ i) × (i ≤ 5) × (pairOf e ≡ after (levelOf level) (keyOf (levelOf level) key) (bits 64 s) i)
+Inv-loop level key s e₀ i₀ e i = (i ≤ 5) × (pairOf e ≡ after (levelOf level) (keyOf (levelOf level) key) (bits 64 s) i)
 
 abbrev μ-loop : tie.MeasureT-loop
 μ-loop level key s e₀ i₀ e i = 5 - i
 
-first-round-requires : tie.Need-first-round-requires Inv-loop μ-loop
-unfolding after
-first-round-requires c κs =
-    let start = c .before in
-    let l = levelOf (start .args .level) in
-    (start .pre .0, (start .pre .1, inside-by (l .r) (c .nothing .ensures) (after-in l (keyOf l (start .args .key)) (bits 64 (start .args .s)) 0)))
-
 loop-holds : tie.Need-loop-holds Inv-loop μ-loop
 unfolding after
-loop-holds c =
-    let start = c .before .before .args in
-    let l = levelOf (start .level) in
-    (omega arith, omega arith, c .first-round .ensures ∙ ap (firstRound l (keyOf l (start .key)) (bits 64 (start .s))) (c .before .nothing .ensures))
+loop-holds c = (omega arith, c .nothing .ensures)
 
-round-requires : tie.Need-round-requires Inv-loop μ-loop
-round-requires c κs =
-    let start = c .before .before .before .before in
+step-requires : tie.Need-step-requires Inv-loop μ-loop
+step-requires c κs =
+    let start = c .before .before .before in
     let l = levelOf (start .args .level) in
-    (start .pre .0, (start .pre .1, inside-by (l .r) (c .before .loop .inv .2) (after-in l (keyOf l (start .args .key)) (bits 64 (start .args .s)) (c .before .loop .i))))
+    (start .pre .0, (start .pre .1, inside-by (l .r) (c .before .loop .inv .1) (after-in l (keyOf l (start .args .key)) (bits 64 (start .args .s)) (c .before .loop .i))))
 
 loop-again : tie.Need-loop-again Inv-loop μ-loop
 loop-again c =
-    let start = c .before .before .before .before .before .args in
+    let start = c .before .before .before .before .args in
     let l = levelOf (start .level) in
     let h = keyOf l (start .key) in
     let s = bits 64 (start .s) in
     let turn = c .before .before .loop in
-    (omega arith, omega arith, c .round .ensures ∙ ap (round l h s) (turn .inv .2) ∙ sym (after-more l h s (turn .i) (turn .inv .0)))
+    (omega arith, c .step .ensures ∙ ap (step l h s (turn .i)) (turn .inv .1) ∙ sym (after-more l h s (turn .i)))
 
 returns : tie.Need-returns Inv-loop μ-loop
 unfolding decoded
 returns c =
-    let start = c .before .before .before .before .args in
+    let start = c .before .before .before .args in
     let l = levelOf (start .level) in
     let all : c .before .loop .i ≡ 5 = omega arith in
-    c .before .loop .inv .2 ∙ ap (after l (keyOf l (start .key)) (bits 64 (start .s))) all
+    c .before .loop .inv .1 ∙ ap (after l (keyOf l (start .key)) (bits 64 (start .s))) all
 
 pub rounds-spec : {M : Type 1} → statement M
 rounds-spec =
@@ -60,9 +50,8 @@ rounds-spec =
     Inv-loop
     μ-loop
     (λ c κs. tt)
-    first-round-requires
     loop-holds
-    round-requires
+    step-requires
     (λ c. omega arith)
     (λ c. omega arith)
     loop-again
