@@ -143,12 +143,13 @@ reached r h res c0 c1 bound counted is =
     pair-path (is .0 ∙ marked r (h .half0) res c0 bound (counted .0)) (is .1 ∙ marked r (h .half1) res c1 bound (counted .1))
 
 -- a, flipped where b has it too
-flip-common : (a b : Bool) → flip a (a && b) ≡ a && not b
+flip-common : (a b : Bool) → flip a (b && a) ≡ a && not b
 flip-common true true = refl
 flip-common true false = refl
-flip-common false b = refl
+flip-common false true = refl
+flip-common false false = refl
 
-pub without-flipped : (a b : Pair) → flipped a (among a b) ≡ without a b
+pub without-flipped : (a b : Pair) → flipped a (among b a) ≡ without a b
 unfolding flipped among without add
 without-flipped a b =
     pair-path (fun-ext (λ k. flip-common (a .half0 k) (b .half0 k))) (fun-ext (λ k. flip-common (a .half1 k) (b .half1 k)))

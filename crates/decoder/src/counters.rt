@@ -2,8 +2,9 @@
 // bytes with no wrap, and after it come zeros, so that eight rows can always be added in one pass.
 use ring::WORDS;
 use ring::frame::zeros;
+use ring::unpack::lay;
+use ring::unpack::repeat;
 ghost use mathlib.Core.Path.{_≡_};
-ghost use mathlib.Core.Logic.{_⊎_};
 ghost use mathlib.Core.Bool.{_&&_};
 ghost use Prim.Native.Nat.{ℕ, _+_, _*_, _/_, _%_, _^_, _≤_, _<_};
 ghost use lib.Dec.{ltb, leb, eqb};
@@ -18,73 +19,19 @@ const BITS: usize = 24704;
 
 const ROWS: usize = 74112;
 
-// Eight bits, one to a byte.
-fn eight_bytes(b: u64) -> u64
-    requires { ⌜ b < 256 ⌝ }
-    ensures { λ v. ⌜ ((k : ℕ) → k < 8 → v / 2 ^ (8 * k) % 256 ≡ bit (bitAt b k)) ⌝ }
-{
-    let spread = (b * 0x0101010101010101) & 0x8040201008040201;
-    ((spread + 0x7f7f7f7f7f7f7f7f) >> 7) & 0x0101010101010101
-}
-
-// The eight bytes of v from `at` on. LLVM makes one store of the eight.
-fn put_eight(out: &mut [u8], at: usize, v: u64)
-    requires { ⌜ at + 8 ≤ length (now out) ⌝ }
-    ensures { λ _. ⌜ ((k : ℕ) → k < 8 → getD (now (out .exit)) (at + k) 0 ≡ v / 2 ^ (8 * k) % 256) ⌝ }
-    ensures { λ _. ⌜ ((i : ℕ) → (i < at) ⊎ (at + 8 ≤ i) → getD (now (out .exit)) i 0 ≡ getD (now (out .entry)) i 0) ⌝ }
-{
-    out[at] = (v % 256) as u8;
-    out[at + 1] = ((v >> 8) % 256) as u8;
-    out[at + 2] = ((v >> 16) % 256) as u8;
-    out[at + 3] = ((v >> 24) % 256) as u8;
-    out[at + 4] = ((v >> 32) % 256) as u8;
-    out[at + 5] = ((v >> 40) % 256) as u8;
-    out[at + 6] = ((v >> 48) % 256) as u8;
-    out[at + 7] = ((v >> 56) % 256) as u8;
-}
-
-// The bits of n words, one to a byte.
-fn unpack(x: &[u64], n: usize, out: &mut [u8])
-    requires { ⌜ (n ≤ length (now x)) × (64 * n ≤ length (now out)) ⌝ }
-    ensures { λ _. ⌜ ((k : ℕ) → k < 64 * n → getD (now (out .exit)) k 0 ≡ bit (bits 64 (now (x .entry)) k)) ⌝ }
-    ensures { λ _. ⌜ ((k : ℕ) → 64 * n ≤ k → getD (now (out .exit)) k 0 ≡ getD (now (out .entry)) k 0) ⌝ }
-{
-    let mut i = 0;
-    while i < 8 * n {
-        let byte = (x[i / 8] >> (8 * (i % 8))) % 256;
-        put_eight(out, 8 * i, eight_bytes(byte));
-        i += 1;
-    }
-}
-
-// The first r bytes once more, behind themselves.
-fn repeat(out: &mut [u8], r: usize)
-    requires { ⌜ 2 * r ≤ length (now out) ⌝ }
-    ensures { λ _. ⌜ ((k : ℕ) → k < r → getD (now (out .exit)) (r + k) 0 ≡ getD (now (out .entry)) k 0) ⌝ }
-    ensures { λ _. ⌜ ((k : ℕ) → (k < r) ⊎ (2 * r ≤ k) → getD (now (out .exit)) k 0 ≡ getD (now (out .entry)) k 0) ⌝ }
-{
-    let mut i = 0;
-    while i < r {
-        out[r + i] = out[i];
-        i += 1;
-    }
-}
-
-fn blank_rows() -> [u8; ROWS]
+pub fn blank_rows() -> [u8; ROWS]
     ensures { λ s. ⌜ s ≡ replicate 74112 0 ⌝ }
 {
     [0u8; ROWS]
 }
 
-// The residual twice in a row, then zeros.
-pub fn rows(r: usize, x: [u64; WORDS]) -> [u8; ROWS]
-    requires { ⌜ (64 ≤ r) × (r < 24704) ⌝ }
-    ensures { λ s. ⌜ (length s ≡ 74112) × ((k : ℕ) → k < 2 * r → getD s k 0 ≡ bit (bits 64 x (k % r))) × ((k : ℕ) → 2 * r ≤ k → getD s k 0 ≡ 0) ⌝ }
+// The residual twice in a row, before zeros.
+pub fn rows(r: usize, x: [u64; WORDS], s: &mut [u8])
+    requires { ⌜ (64 ≤ r) × (r < 24704) ⌝ ∗ ⌜ now s ≡ replicate 74112 0 ⌝ }
+    ensures { λ _. ⌜ ((k : ℕ) → k < 2 * r → getD (now (s .exit)) k 0 ≡ bit (bits 64 x (k % r))) × ((k : ℕ) → 2 * r ≤ k → getD (now (s .exit)) k 0 ≡ 0) ⌝ }
 {
-    let mut s = blank_rows();
-    unpack(&x, r / 64 + 1, &mut s);
-    repeat(&mut s, r);
-    s
+    lay(&x, (r + 7) / 8, s);
+    repeat(s, r);
 }
 
 fn row(positions: &[u16], d: usize, zeros: usize, i: usize) -> usize

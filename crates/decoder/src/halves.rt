@@ -61,10 +61,10 @@ pub fn among(level: u32, a: Halves, b: Halves) -> Halves
 
 // Those of a that b has not: a, flipped where b has them too.
 pub fn without(level: u32, a: Halves, b: Halves) -> Halves
-    requires { ⌜ Inside (levelOf level) a × Inside (levelOf level) b ⌝ }
+    requires { ⌜ Inside (levelOf level) a ⌝ }
     ensures { λ f. ⌜ pairOf f ≡ Decoder.without (pairOf a) (pairOf b) ⌝ }
 {
-    flipped(level, a, among(level, a, b))
+    flipped(level, a, among(level, b, a))
 }
 
 // No error.

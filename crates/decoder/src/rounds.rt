@@ -53,7 +53,8 @@ fn count(level: u32, key: Key, x: [u64; WORDS], c0: &mut [u8], c1: &mut [u8])
 {
     let r = size::block(level);
     let d = size::key_weight(level);
-    let s = counters::rows(r, x);
+    let mut s = counters::blank_rows();
+    counters::rows(r, x, &mut s);
     let h0 = key.h0;
     let h1 = key.h1;
     counters::counters(r, &h0, d, &s, c0);

@@ -1,12 +1,13 @@
 // A polynomial with one byte to a bit, twice in a row: a loop over its bits then needs no shift, and a step within it no wrap.
 use crate::WORDS;
 ghost use mathlib.Core.Path.{_≡_};
+ghost use mathlib.Core.Logic.{_⊎_};
 ghost use Prim.Native.Nat.{ℕ, _+_, _*_, _/_, _%_, _^_, _≤_, _<_};
 ghost use lib.ListN.{length, getD};
 ghost use lib.Seq.{sets};
 ghost use Rattle.hashing.specs.Lists.{tab, bitAt, bits};
 ghost use Rattle.ring.specs.Held.{Held};
-ghost use Rattle.ring.specs.Polynomials.{Poly, bit};
+ghost use Rattle.ring.specs.Polynomials.{bit};
 
 // Bytes for the bits of a polynomial of the largest level, twice.
 pub const TWICE_BITS: usize = 49408;
@@ -36,9 +37,10 @@ fn put(out: &mut [u8], at: usize, v: u64)
 }
 
 // The bits of the n lowest bytes of x.
-fn lay(x: &[u64], n: usize, out: &mut [u8])
+pub fn lay(x: &[u64], n: usize, out: &mut [u8])
     requires { ⌜ (n ≤ 8 * length (now x)) × (8 * n ≤ length (now out)) × (n ≤ 3088) ⌝ }
     ensures { λ _. ⌜ ((k : ℕ) → k < 8 * n → getD (now (out .exit)) k 0 ≡ bit (bits 64 (now (x .entry)) k)) ⌝ }
+    ensures { λ _. ⌜ ((k : ℕ) → 8 * n ≤ k → getD (now (out .exit)) k 0 ≡ getD (now (out .entry)) k 0) ⌝ }
 {
     let mut i = 0;
     while i < n {
@@ -48,10 +50,11 @@ fn lay(x: &[u64], n: usize, out: &mut [u8])
     }
 }
 
-// The first r bytes once more.
-fn repeat(out: &mut [u8], r: usize)
-    requires { ⌜ (r < 24704) × (r + r ≤ length (now out)) ⌝ }
-    ensures { λ _. ⌜ ((a : Poly) → ((k : ℕ) → k < r → getD (now (out .entry)) k 0 ≡ bit (a k)) → Held r a (now (out .exit))) ⌝ }
+// The first r bytes once more, behind themselves.
+pub fn repeat(out: &mut [u8], r: usize)
+    requires { ⌜ 2 * r ≤ length (now out) ⌝ }
+    ensures { λ _. ⌜ ((k : ℕ) → k < r → getD (now (out .exit)) (r + k) 0 ≡ getD (now (out .entry)) k 0) ⌝ }
+    ensures { λ _. ⌜ ((k : ℕ) → (k < r) ⊎ (2 * r ≤ k) → getD (now (out .exit)) k 0 ≡ getD (now (out .entry)) k 0) ⌝ }
 {
     let mut i = 0;
     while i < r {

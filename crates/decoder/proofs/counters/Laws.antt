@@ -2,125 +2,21 @@
 use mathlib.Core.Path.{_≡_, refl, sym, ap, ap₂, _∙_}
 use mathlib.Core.Bool.{Bool, true, false, _||_, or-false}
 use mathlib.Core.List.{List, [], _∷_}
-use mathlib.Core.Logic.{_⊎_, inl, inr, ⊎-elim}
 use Prim.Native.Nat.{ℕ, zero, suc, _+_, _-_, _*_, _/_, _%_, _^_, _≤_, _<_, zero-le}
-use native.Mathlib.Nat.{not-suc-le-zero, le-of-suc-le-suc, add-zero, lt-suc-self, div-one, mod-eq-of-lt, mod-eq-sub-mod, add-suc, add-assoc, add-sub-of-le, le-add-right, le-refl, zero-add, add-mul-div-left, div-eq-of-lt, add-mul-mod-self-right}
+use native.Mathlib.Nat.{add-zero, lt-suc-self, mod-eq-of-lt, add-suc, add-assoc, add-sub-of-le, le-add-right, le-refl, zero-add, add-mul-div-left, div-eq-of-lt, add-mul-mod-self-right}
 use native.Mathlib.Decide.{decLt}
-use native.Mathlib.Numerals.{towards-suc}
 use native.Mathlib.Omega.{arith}
-use borrow.Author.Tests.{eqb-true, lt-ltb, le-ltb}
-use lib.Bits.{bitAnd, bitOr}
-use lib.Dec.{eqb, ltb, lit<}
-use lib.ListN.{length, getD, set, replicate, length-set, length-replicate, getD-replicate, List·getD-eq-default}
-use lib.Seq.{sets, getD-set-same, getD-set-other}
+use borrow.Author.Tests.{lt-ltb, le-ltb}
+use lib.Bits.{bitOr}
+use lib.Dec.{eqb, lit<}
+use lib.ListN.{length, getD, replicate, length-replicate}
 use mir.Val.{boolByte}
-use Rattle.hashing.specs.Lists.{tab, bitAt, bits}
-use Rattle.hashing.proofs.Lists.{length-tab, getD-tab}
-use Rattle.hashing.proofs.Words.{bit-or, bit-mod, bit-shl, bit-shl-below, bit-shr, bit-above, bits-at}
+use Rattle.hashing.specs.Lists.{tab, bitAt}
+use Rattle.hashing.proofs.Words.{bit-or, bit-mod, bit-shl, bit-shl-below, bit-above}
 use Rattle.ring.specs.Bytes.{number}
 use Rattle.ring.specs.Polynomials.{bit}
 use Rattle.ring.proofs.Binary.{bitAt-number, number-lt}
 use Rattle.decoder.specs.Counting.{total, rowOf}
-use Rattle.ring.proofs.Bools.{allBelow, checked}
-
--- what the code makes of eight bits
-unfoldable pub spreadOut : ℕ → ℕ
-spreadOut b = bitAnd ((bitAnd (b * 0x0101010101010101) 0x8040201008040201 + 0x7f7f7f7f7f7f7f7f) / 2 ^ 7) 0x0101010101010101
-
--- tried at each of the 256 values and each of the eight places
-pub spread-bits : (b k : ℕ) → b < 256 → k < 8 → spreadOut b / 2 ^ (8 * k) % 256 ≡ bit (bitAt b k)
-unfolding allBelow spreadOut bitAt
-spread-bits b k hb hk =
-    eqb-true (spreadOut b / 2 ^ (8 * k) % 256) (bit (bitAt b k))
-    (checked 8 (λ k. eqb (spreadOut b / 2 ^ (8 * k) % 256) (bit (bitAt b k)))
-    (checked 256 (λ b. allBelow 8 (λ k. eqb (spreadOut b / 2 ^ (8 * k) % 256) (bit (bitAt b k)))) refl b hb) k hk)
-
--- a run of stores, element by element
-pub sets-outside : (vs l : List ℕ) (i j : ℕ) → (j < i) ⊎ (i + length vs ≤ j) → getD (sets l i vs) j 0 ≡ getD l j 0
-sets-outside [] l i j h = refl
-sets-outside (v ∷ vs) l i j h =
-    sets-outside vs (set l i v) (suc i) j (⊎-elim (λ below. inl (omega arith)) (λ past. inr (omega arith)) h)
-    ∙ getD-set-other l i j v 0 (⊎-elim (λ below e. omega arith) (λ past e. omega arith) h)
-
-pub sets-inside : (vs l : List ℕ) (i k : ℕ) → i + length vs ≤ length l → k < length vs → getD (sets l i vs) (i + k) 0 ≡ getD vs k 0
-sets-inside [] l i k room h = absurd (not-suc-le-zero h)
-sets-inside (v ∷ vs) l i zero room h =
-    rw add-zero
-    (sets-outside vs (set l i v) (suc i) i (inl (lt-suc-self i)) ∙ getD-set-same l i v 0 (omega arith))
-sets-inside (v ∷ vs) l i (suc k) room h =
-    let next : i + suc k ≡ suc i + k = omega arith in
-    let longer : suc i + length vs ≤ length (set l i v) = rw length-set (omega arith) in
-    rw next (sets-inside vs (set l i v) (suc i) k longer (le-of-suc-le-suc h))
-
--- the bytes of v
-unfoldable pub bytesOfWord : ℕ → List ℕ
-bytesOfWord v = tab 8 (λ k. v / 2 ^ (8 * k) % 256)
-
--- the code's eight stores are one run of stores
-pub eight-stores : (l : List ℕ) (at v : ℕ)
-    → set (set (set (set (set (set (set (set l at (v % 256)) (at + 1) (v / 2 ^ 8 % 256)) (at + 2) (v / 2 ^ 16 % 256)) (at + 3) (v / 2 ^ 24 % 256)) (at + 4) (v / 2 ^ 32 % 256))
-    (at + 5) (v / 2 ^ 40 % 256)) (at + 6) (v / 2 ^ 48 % 256)) (at + 7) (v / 2 ^ 56 % 256)
-    ≡ sets l at (bytesOfWord v)
-unfolding bytesOfWord tab
-eight-stores l at v = simp (towards-suc, div-one)
-
-pub length-bytesOfWord : (v : ℕ) → length (bytesOfWord v) ≡ 8
-unfolding bytesOfWord
-length-bytesOfWord v = length-tab 8 _
-
-pub getD-bytesOfWord : (v k : ℕ) → k < 8 → getD (bytesOfWord v) k 0 ≡ v / 2 ^ (8 * k) % 256
-unfolding bytesOfWord
-getD-bytesOfWord v k h = getD-tab 8 (λ k. v / 2 ^ (8 * k) % 256) 0 k h
-
--- bit j of byte i of words
-byte-bit : (x : List ℕ) (i j : ℕ) → j < 8 → bitAt (getD x (i / 8) 0 / 2 ^ (8 * (i % 8)) % 256) j ≡ bits 64 x (8 * i + j)
-byte-bit x i j h =
-    bit-mod (getD x (i / 8) 0 / 2 ^ (8 * (i % 8))) 8 j h ∙ bit-shr (getD x (i / 8) 0) (8 * (i % 8)) j
-    ∙ sym (bits-at 64 x (i / 8) (j + 8 * (i % 8)) (omega arith) (omega arith))
-
--- one byte more is unpacked
-pub unpack-more : (x out next : List ℕ) (i v : ℕ)
-    → ((j : ℕ) → j < 8 → v / 2 ^ (8 * j) % 256 ≡ bit (bitAt (getD x (i / 8) 0 / 2 ^ (8 * (i % 8)) % 256) j))
-    → ((j : ℕ) → j < 8 → getD next (8 * i + j) 0 ≡ v / 2 ^ (8 * j) % 256)
-    → ((k : ℕ) → (k < 8 * i) ⊎ (8 * i + 8 ≤ k) → getD next k 0 ≡ getD out k 0)
-    → ((k : ℕ) → k < 8 * i → getD out k 0 ≡ bit (bits 64 x k))
-    → (k : ℕ) → k < 8 * (i + 1) → getD next k 0 ≡ bit (bits 64 x k)
-unpack-more x out next i v spread inside outside before k h = go (decLt k (8 * i))
-  where
-    go : Dec (k < 8 * i) → getD next k 0 ≡ bit (bits 64 x k)
-    go (yes below) = outside k (inl below) ∙ before k below
-    go (no past) =
-        let j = k - 8 * i in
-        let small : k - 8 * i < 8 = omega arith in
-        let place : k ≡ 8 * i + (k - 8 * i) = omega arith in
-        ap (λ (n : ℕ). getD next n 0) place ∙ inside j small ∙ spread j small
-        ∙ ap bit (byte-bit x i j small ∙ ap (bits 64 x) (sym place))
-
--- the rows from what was unpacked (one) and what lies there once it is repeated (two)
-pub rows-twice : (r : ℕ) (x one two : List ℕ) → r < 64 * (r / 64 + 1)
-    → ((k : ℕ) → k < 64 * (r / 64 + 1) → getD one k 0 ≡ bit (bits 64 x k))
-    → ((k : ℕ) → k < r → getD two (r + k) 0 ≡ getD one k 0)
-    → ((k : ℕ) → (k < r) ⊎ (2 * r ≤ k) → getD two k 0 ≡ getD one k 0)
-    → (k : ℕ) → k < 2 * r → getD two k 0 ≡ bit (bits 64 x (k % r))
-rows-twice r x one two fits unpacked copied kept k h = go (decLt k r)
-  where
-    go : Dec (k < r) → getD two k 0 ≡ bit (bits 64 x (k % r))
-    go (yes below) =
-        rw (mod-eq-of-lt below) (kept k (inl below) ∙ unpacked k (omega arith))
-    go (no past) =
-        let over : r ≤ k = omega arith in
-        let small : k - r < r = omega arith in
-        let place : k ≡ r + (k - r) = omega arith in
-        let back : k % r ≡ k - r = mod-eq-sub-mod over ∙ mod-eq-of-lt small in
-        rw back (ap (λ (n : ℕ). getD two n 0) place ∙ copied (k - r) small ∙ unpacked (k - r) (omega arith))
-
-pub getD-zeros : (n k : ℕ) → _≡_ {A = ℕ} (getD (replicate n 0) k 0) 0
-getD-zeros n k = go (decLt k n)
-  where
-    go : Dec (k < n) → _≡_ {A = ℕ} (getD (replicate n 0) k 0) 0
-    go (yes below) = getD-replicate n k 0 0 below
-    go (no past) =
-        let out : length (replicate {A = ℕ} n 0) ≤ k = rw length-replicate (omega arith) in List·getD-eq-default (replicate n 0) 0 out
 
 pub blank-length : (n : ℕ) {l : List ℕ} → l ≡ replicate n 0 → length l ≡ n
 blank-length n e = ap length e ∙ length-replicate {A = ℕ} n 0

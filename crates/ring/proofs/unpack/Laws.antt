@@ -1,20 +1,22 @@
 -- What the unpacking of words to bytes rests on. Assumes nothing.
 use mathlib.Core.Path.{_≡_, refl, sym, ap, ap₂, _∙_}
 use mathlib.Core.Bool.{Bool, true, false, true≢false}
-use mathlib.Core.List.{List, _++_}
+use mathlib.Core.List.{List, [], _∷_, _++_}
+use mathlib.Core.Logic.{_⊎_, inl}
 use Prim.Native.Nat.{ℕ, zero, suc, _+_, _-_, _*_, _/_, _%_, _^_, _≤_, _<_}
-use native.Mathlib.Nat.{not-suc-le-zero}
+use native.Mathlib.Nat.{not-suc-le-zero, mod-eq-of-lt, mod-eq-sub-mod}
 use native.Mathlib.Decide.{ℕ-discrete, decLt}
 use native.Mathlib.Omega.{arith}
 use lib.Bits.{bitAnd, bitOr}
 use lib.Dec.{eqb}
 use lib.ListN.{length, getD, set, take, drop, length-append, List·getD-append}
-use lib.Seq.{sets, sets-eq, length-take-le, getD-take, getD-set-same, getD-set-other, getD-append-add}
+use lib.Seq.{sets, sets-eq, length-take-le, getD-take, getD-set-other, getD-append-add}
 use borrow.Author.Tests.{eqb-true}
 use Rattle.hashing.specs.Lists.{tab, bitAt, bits}
 use Rattle.hashing.proofs.Lists.{length-tab, getD-tab}
 use Rattle.hashing.proofs.Words.{bit-mod, bit-shr, bits-at}
-use Rattle.ring.specs.Polynomials.{both, bit}
+use Rattle.ring.specs.Held.{Held}
+use Rattle.ring.specs.Polynomials.{Poly, both, bit}
 
 -- a test of all numbers below n
 every : ℕ → (ℕ → Bool) → Bool
@@ -75,11 +77,22 @@ laid-more P out i f room before eight k below =
         ∙ getD-append-add (take (8 * i) out) (tab 8 f) (k - 8 * i) 0 ∙ getD-tab 8 f 0 (k - 8 * i) (omega arith)
         ∙ eight (k - 8 * i) (omega arith) ∙ ap P back
 
--- a byte more
-pub repeat-more : (P : ℕ → ℕ) (out : List ℕ) (i : ℕ) (v : ℕ) → i < length out
-    → ((k : ℕ) → k < i → getD out k 0 ≡ P k) → v ≡ P i → (k : ℕ) → k < i + 1 → getD (set out i v) k 0 ≡ P k
-repeat-more P out i v room before is k below = go (ℕ-discrete k i)
+-- and nothing behind them
+pub sets-past : (vs l : List ℕ) (i j : ℕ) → i + length vs ≤ j → getD (sets l i vs) j 0 ≡ getD l j 0
+sets-past [] l i j h = refl
+sets-past (v ∷ vs) l i j h = sets-past vs (set l i v) (suc i) j (omega arith) ∙ getD-set-other l i j v 0 (λ e. omega arith)
+
+-- what is laid out (one) is held once it is repeated (two)
+pub twice : (r : ℕ) (a : Poly) (one two : List ℕ) → ((k : ℕ) → k < r → getD one k 0 ≡ bit (a k))
+    → ((k : ℕ) → k < r → getD two (r + k) 0 ≡ getD one k 0)
+    → ((k : ℕ) → (k < r) ⊎ (2 * r ≤ k) → getD two k 0 ≡ getD one k 0) → Held r a two
+twice r a one two laid copied kept k h = go (decLt k r)
   where
-    go : Dec (k ≡ i) → getD (set out i v) k 0 ≡ P k
-    go (yes last) = rw last (getD-set-same out i v 0 room ∙ is)
-    go (no other) = getD-set-other out i k v 0 other ∙ before k (omega arith)
+    go : Dec (k < r) → getD two k 0 ≡ bit (a (k % r))
+    go (yes below) = rw (mod-eq-of-lt below) (kept k (inl below) ∙ laid k below)
+    go (no past) =
+        let over : r ≤ k = omega arith in
+        let small : k - r < r = omega arith in
+        let place : k ≡ r + (k - r) = omega arith in
+        let back : k % r ≡ k - r = mod-eq-sub-mod over ∙ mod-eq-of-lt small in
+        rw back (ap (λ (n : ℕ). getD two n 0) place ∙ copied (k - r) small ∙ laid (k - r) small)

@@ -4,7 +4,7 @@ use mathlib.Core.Bool.{Bool, false, _||_, or-false}
 use mathlib.Core.List.{List, [], _∷_}
 use mathlib.Core.Logic.{_⊎_, inl, inr}
 use Prim.Native.Nat.{ℕ, zero, suc, _+_, _-_, _*_, _/_, _%_, _^_, _≤_, _<_}
-use native.Mathlib.Nat.{not-suc-le-zero, add-comm, one-mul, mod-lt}
+use native.Mathlib.Nat.{not-suc-le-zero, add-comm, mod-lt}
 use native.Mathlib.Decide.{decLt}
 use native.Mathlib.Omega.{arith}
 use borrow.Author.Count.{below-more}
@@ -12,7 +12,7 @@ use lib.Bits.{bitOr}
 use lib.Count.{ones}
 use lib.Dec.{lit<}
 use lib.ListN.{length, getD, set, replicate, length-set}
-use lib.Pow.{shl-exact, pow-pos}
+use lib.Pow.{pow-pos}
 use lib.Seq.{getD-set-same, getD-set-other}
 use Rattle.hashing.specs.Lists.{bitAt, bits}
 use Rattle.hashing.proofs.Words.{bit-or, bit-mod, bit-shl, bit-shl-below, bit-shr, bit-above, bit-zero, bits-at, bits-by, bits-out, zero-at}
@@ -64,9 +64,6 @@ two-words x i e h = go (decLt e 64)
     go (no high) =
         bits-at 64 (getD x i 0 ∷ getD x (i + 1) 0 ∷ []) 1 (e - 64) (omega arith) (omega arith)
         ∙ sym (bits-at 64 x (i + 1) (e - 64) (omega arith) (omega arith))
-
-pub shl-one : (s : ℕ) → s < 64 → 1 * 2 ^ s % 2 ^ 64 ≡ 2 ^ s
-shl-one s h = shl-exact 1 s 64 (lit< tt) (omega arith) ∙ one-mul (2 ^ s)
 
 -- a polynomial of r / 64 + 1 words is cut off at r, by m = 1 << r % 64
 module _ (y : List ℕ) (r m : ℕ) (mask : m ≡ 2 ^ (r % 64)) (room : r / 64 < length y) (inside : InRing (64 * (r / 64 + 1)) (bits 64 y)) where

@@ -1,4 +1,4 @@
--- `exchange::counters::add_rows`: the counters below j have the eight rows, the others do not yet.
+-- `add_rows`: the counters below j have the eight rows, the others do not yet.
 use mathlib.Core.Path.{_≡_, refl, ap₂, _∙_}
 use Prim.Native.Nat.{ℕ, _+_, _≤_, _<_, _-_}
 use native.Mathlib.Omega.{arith}

@@ -3,10 +3,11 @@ use mathlib.Core.Path.{_≡_, sym, ap, ap₂, _∙_}
 use mathlib.Core.List.{List}
 use Prim.Native.Nat.{ℕ, _+_, _*_, _≤_, _<_, _-_}
 use native.Mathlib.Omega.{arith}
-use lib.ListN.{length, getD, replicate, length-replicate}
+use lib.ListN.{length, getD}
 use Rattle.hashing.proofs.Lists.{from-table}
 use Rattle.decoder.specs.Counting.{total, rowOf}
-use Rattle.decoder.proofs.counters.Laws.{total-ext, total-add, total-le, total-past, row-of, row-past, row-room, getD-zeros, blank-length}
+use Rattle.hashing.proofs.Words.{zero-at}
+use Rattle.decoder.proofs.counters.Laws.{total-ext, total-add, total-le, total-past, row-of, row-past, row-room, blank-length}
 use Rattle.decoder.proofs.counters.counters.Statement.{statement}
 use Rattle.decoder.proofs.counters.counters.Tie as tie
 
@@ -25,7 +26,7 @@ loop-holds : tie.Need-loop-holds Inv-loop μ-loop
 unfolding total
 loop-holds c =
     let blank = c .before .before .before .pre .1 .1 .1 in
-    (omega arith, blank-length 24704 blank, λ j h. ap (λ (l : List ℕ). getD l j 0) blank ∙ getD-zeros 24704 j)
+    (omega arith, blank-length 24704 blank, λ j h. ap (λ (l : List ℕ). getD l j 0) blank ∙ zero-at 24704 j)
 
 add-rows-requires : tie.Need-add-rows-requires Inv-loop μ-loop
 add-rows-requires c κs =

@@ -1,4 +1,4 @@
--- `exchange::counters::eight`: the sum of eight entries.
+-- `eight`: the sum of eight entries.
 use native.Mathlib.Omega.{arith}
 use borrow.Author.Needs.{needs}
 use lib.Dec.{lit<}

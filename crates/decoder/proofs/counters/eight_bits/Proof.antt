@@ -1,4 +1,4 @@
--- `exchange::counters::eight_bits`: eight bytes that are 0 or 1 become the bits of one.
+-- `eight_bits`: eight bytes that are 0 or 1 become the bits of one.
 use mathlib.Core.Path.{_≡_, _∙_}
 use mathlib.Core.List.{List}
 use Prim.Native.Nat.{ℕ, _+_, _*_, _^_, _≤_}

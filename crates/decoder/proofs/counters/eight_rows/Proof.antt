@@ -1,4 +1,4 @@
--- `exchange::counters::eight_rows`: one call for each of the eight.
+-- `eight_rows`: one call for each of the eight.
 use Prim.Native.Nat.{_+_}
 use native.Mathlib.Nat.{add-zero}
 use native.Mathlib.Omega.{arith}

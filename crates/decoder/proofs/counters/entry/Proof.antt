@@ -1,4 +1,4 @@
--- `exchange::counters::entry`: a byte of the rows is 0 or 1.
+-- `entry`: a byte of the rows is 0 or 1.
 use mathlib.Core.Path.{refl}
 use borrow.Author.Needs.{needs}
 use Rattle.decoder.proofs.counters.entry.Statement.{statement}

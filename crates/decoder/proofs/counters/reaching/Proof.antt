@@ -1,14 +1,14 @@
 -- `reaching`: tests, packed.
-use mathlib.Core.Path.{_≡_, sym, ap, _∙_, fun-ext}
+use mathlib.Core.Path.{sym, ap, _∙_, fun-ext}
 use mathlib.Core.Bool.{_&&_}
 use mathlib.Core.List.{List}
 use Prim.Native.Nat.{ℕ}
 use native.Mathlib.Omega.{arith}
-use borrow.Author.Needs.{needs}
 use borrow.Author.Tests.{le-ltb}
 use lib.Dec.{leb, ltb, eqb}
 use lib.ListN.{getD}
-use Rattle.decoder.proofs.counters.Laws.{getD-zeros, blank-length, test-bit, bit-le}
+use Rattle.hashing.proofs.Words.{zero-at}
+use Rattle.decoder.proofs.counters.Laws.{blank-length, test-bit, bit-le}
 use Rattle.decoder.proofs.counters.reaching.Statement.{statement}
 use Rattle.decoder.proofs.counters.reaching.Tie as tie
 
@@ -16,7 +16,7 @@ tests-requires : tie.Need-tests-requires
 tests-requires c κs =
     let size = blank-length 24704 (c .before .blank-counts .ensures) in
     let bound = c .before .before .before .pre in
-    (omega arith, omega arith, λ k. ap (λ (l : List ℕ). getD l k 0) (c .before .blank-counts .ensures) ∙ getD-zeros 24704 k)
+    (omega arith, omega arith, λ k. ap (λ (l : List ℕ). getD l k 0) (c .before .blank-counts .ensures) ∙ zero-at 24704 k)
 
 packed-requires : tie.Need-packed-requires
 packed-requires c κs =

@@ -1,4 +1,4 @@
--- `exchange::counters::row`: the position, or the zeros past the last one.
+-- `row`: the position, or the zeros past the last one.
 use native.Mathlib.Omega.{arith}
 use borrow.Author.Needs.{needs}
 use borrow.Author.Tests.{lt-ltb, le-ltb}

@@ -1,47 +1,47 @@
--- `exchange::counters::rows`: unpacked once, and then once more behind itself; what follows was 0 from the start.
-use mathlib.Core.Path.{_≡_, sym, ap, _∙_}
+-- `rows`: laid out once, and then once more behind itself; what follows was 0 from the start.
+use mathlib.Core.Path.{ap, _∙_}
 use mathlib.Core.List.{List}
 use mathlib.Core.Logic.{inr}
 use Prim.Native.Nat.{ℕ, _+_, _*_, _/_, _≤_}
 use native.Mathlib.Omega.{arith}
 use borrow.Author.Needs.{needs}
-use lib.ListN.{length, getD, replicate, length-replicate}
-use Rattle.decoder.proofs.counters.Laws.{rows-twice, getD-zeros, blank-length}
+use lib.ListN.{getD}
+use Rattle.hashing.specs.Lists.{bits}
+use Rattle.hashing.proofs.Words.{zero-at}
+use Rattle.ring.proofs.unpack.Laws.{twice}
+use Rattle.decoder.proofs.counters.Laws.{blank-length}
 use Rattle.decoder.proofs.counters.rows.Statement.{statement}
 use Rattle.decoder.proofs.counters.rows.Tie as tie
 
-unpack-requires : tie.Need-unpack-requires
-unpack-requires c κs =
-    let size = blank-length 74112 (c .before .before .blank-rows .ensures) in
-    let bound = c .before .before .before .pre in
-    (omega arith, omega arith)
-
-slice-aggregate-repeat : tie.Need-slice-aggregate-repeat
-slice-aggregate-repeat c =
-    sym (c .before .before .unpack .kept .1 .1 .0 ∙ blank-length 74112 (c .before .before .before .before .before .blank-rows .ensures))
+lay-requires : tie.Need-lay-requires
+lay-requires c κs =
+    let start = c .before .before .before in
+    let size = blank-length 74112 (start .pre .1) in
+    (omega (arith, start .pre .0), omega (arith, start .pre .0), omega (arith, start .pre .0))
 
 repeat-requires : tie.Need-repeat-requires
 repeat-requires c κs =
-    let size = c .before .before .unpack .kept .1 .1 .0 ∙ blank-length 74112 (c .before .before .before .before .before .blank-rows .ensures) in
-    let bound = c .before .before .before .before .before .before .pre in
-    omega arith
+    let start = c .before .before .before .before .before .before .before in
+    let size = c .before .before .before .lay .kept .1 .1 .0 ∙ blank-length 74112 (start .pre .1) in
+    omega (arith, size, start .pre .0)
+
+same-length : tie.Need-same-length
+same-length c = c .before .before .repeat .kept .0 ∙ c .before .before .before .before .before .before .lay .kept .1 .1 .0
 
 returns : tie.Need-returns
 returns c =
-    let copied = c .before .repeat in
-    let unpacked = c .before .before .before .before .unpack in
-    let blank = c .before .before .before .before .before .before .before .blank-rows in
-    let start = c .before .before .before .before .before .before .before .before in
+    let copied = c .before .before .repeat in
+    let laid = c .before .before .before .before .before .before .lay in
+    let start = c .before .before .before .before .before .before .before .before .before .before in
     let r = start .args .r in (
-      copied .kept .0 ∙ unpacked .kept .1 .1 .0 ∙ blank-length 74112 (blank .ensures),
-      rows-twice r (start .args .t2) (unpacked .last .1 .1 .0) (copied .last .0) (omega arith) (unpacked .ensures .0) (copied .ensures .0) (copied .ensures .1),
+      (λ k h.
+          twice r (bits 64 (start .args .t2)) (laid .last .1 .1 .0) (copied .last .0) (λ k below. laid .ensures .0 k (omega arith)) (copied .ensures .0) (copied .ensures .1) k (omega arith)),
       λ k h.
-          let past : 64 * (r / 64 + 1) ≤ k = omega (arith, start .pre) in
-          copied .ensures .1 k (inr h) ∙ unpacked .ensures .1 k past ∙ ap (λ (l : List ℕ). getD l k 0) (blank .ensures) ∙ getD-zeros 74112 k,
+          let past : 8 * ((r + 7) / 8) ≤ k = omega (arith, start .pre .0) in
+          copied .ensures .1 k (inr h) ∙ laid .ensures .1 k past ∙ ap (λ (l : List ℕ). getD l k 0) (start .pre .1) ∙ zero-at 74112 k,
     )
 
 pub rows-spec : {M : Type 1} → statement M
 rows-spec =
     tie.close
-    (tie.spec (λ c κs. tt) (λ c. search needs) (λ c. omega arith) (λ c. sym (blank-length 74112 (c .before .before .blank-rows .ensures))) unpack-requires slice-aggregate-repeat
-    repeat-requires returns)
+    (tie.spec (λ c. search needs) (λ c. omega arith) lay-requires repeat-requires same-length returns)

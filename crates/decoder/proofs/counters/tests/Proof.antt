@@ -1,4 +1,4 @@
--- `exchange::counters::tests`: the first k tests are done, and from k on lie zeros.
+-- `tests`: the first k tests are done, and from k on lie zeros.
 use mathlib.Core.Path.{_≡_, refl, _∙_}
 use mathlib.Core.Bool.{_&&_}
 use Prim.Native.Nat.{ℕ, _≤_, _<_, _-_}

@@ -1,4 +1,4 @@
--- `exchange::counters::word_at`: eight bytes that are 0 or 1, each at its place.
+-- `word_at`: eight bytes that are 0 or 1, each at its place.
 use mathlib.Core.Path.{_≡_}
 use Prim.Native.Nat.{ℕ, _*_, _≤_}
 use native.Mathlib.Nat.{mul-comm}

@@ -9,7 +9,7 @@ use Rattle.decoder.proofs.halves.without.Tie as tie
 
 flipped-requires : tie.Need-flipped-requires
 flipped-requires c κs =
-    (c .before .pre .0, rw (← (c .among .ensures)) at (among-in _ (pairOf (c .before .args .a)) (pairOf (c .before .args .b)) (c .before .pre .1)))
+    (c .before .pre, rw (← (c .among .ensures)) at (among-in _ (pairOf (c .before .args .b)) (pairOf (c .before .args .a)) (c .before .pre)))
 
 returns : tie.Need-returns
 returns c =

@@ -1,5 +1,5 @@
 -- `count`: the rows that the positions pick are what a counter counts.
-use mathlib.Core.Path.{_≡_, _∙_}
+use mathlib.Core.Path.{_≡_, sym, _∙_}
 use mathlib.Core.List.{List}
 use Prim.Native.Nat.{ℕ, _+_, _*_, _%_, _≤_, _<_}
 use native.Mathlib.Decide.{decLt}
@@ -54,33 +54,36 @@ module _ (level r d : ℕ) (at-r : r ≡ levelOf level .r) (at-d : d ≡ levelOf
 
 rows-requires : tie.Need-rows-requires
 rows-requires c κs =
-    let size = sizes (c .before .before .before .before .args .level) in
-    rw (c .before .block .ensures) (omega arith)
+    let size = sizes (c .before .before .before .before .before .before .args .level) in
+    (rw (c .before .before .before .block .ensures) (omega arith), c .before .blank-rows .ensures)
 
 -- what is known of the rows
-rows-ready : (c : tie.After-rows) (h : List ℕ) → Rising (levelOf (c .before .before .before .before .before .args .level)) h → Ready (c .before .before .block .result) (c .before .key-weight .result) (c .rows .result) h
-rows-ready c h rising =
-    let start = c .before .before .before .before .before in
-    ready (start .args .level) _ _ (c .before .before .block .ensures) (c .before .key-weight .ensures) (c .rows .result) (bits 64 (start .args .x)) (c .rows .ensures) h rising
+rows-are : (c : tie.After-rows) → Rows (c .before .before .before .before .block .result) (bits 64 (c .before .before .before .before .before .before .before .args .x)) (c .rows .last .1 .1 .0)
+rows-are c = (c .rows .kept .1 .1 .0 ∙ blank-length 74112 (c .before .before .blank-rows .ensures), c .rows .ensures .0, c .rows .ensures .1)
 
-rows-counts : (c : tie.After-rows) (h count : List ℕ) → Rising (levelOf (c .before .before .before .before .before .args .level)) h
-    → (length count ≡ 24704) × ((j : ℕ) → j < c .before .before .block .result → getD count j 0 ≡ total (c .before .key-weight .result) (λ i. getD (c .rows .result) (getD h i 0 + j) 0))
-    → Counted (levelOf (c .before .before .before .before .before .args .level) .r) (support (take (levelOf (c .before .before .before .before .before .args .level) .d) h)) (bits 64 (c .before .before .before .before .before .args .x)) count
+rows-ready : (c : tie.After-rows) (h : List ℕ) → Rising (levelOf (c .before .before .before .before .before .before .before .args .level)) h → Ready (c .before .before .before .before .block .result) (c .before .before .before .key-weight .result) (c .rows .last .1 .1 .0) h
+rows-ready c h rising =
+    let start = c .before .before .before .before .before .before .before in
+    ready (start .args .level) _ _ (c .before .before .before .before .block .ensures) (c .before .before .before .key-weight .ensures) (c .rows .last .1 .1 .0) (bits 64 (start .args .x)) (rows-are c) h rising
+
+rows-counts : (c : tie.After-rows) (h count : List ℕ) → Rising (levelOf (c .before .before .before .before .before .before .before .args .level)) h
+    → (length count ≡ 24704) × ((j : ℕ) → j < c .before .before .before .before .block .result → getD count j 0 ≡ total (c .before .before .before .key-weight .result) (λ i. getD (c .rows .last .1 .1 .0) (getD h i 0 + j) 0))
+    → Counted (levelOf (c .before .before .before .before .before .before .before .args .level) .r) (support (take (levelOf (c .before .before .before .before .before .before .before .args .level) .d) h)) (bits 64 (c .before .before .before .before .before .before .before .args .x)) count
 rows-counts c h count rising is =
-    let start = c .before .before .before .before .before in
-    counts (start .args .level) _ _ (c .before .before .block .ensures) (c .before .key-weight .ensures) (c .rows .result) (bits 64 (start .args .x)) (c .rows .ensures) h rising count is
+    let start = c .before .before .before .before .before .before .before in
+    counts (start .args .level) _ _ (c .before .before .before .before .block .ensures) (c .before .before .before .key-weight .ensures) (c .rows .last .1 .1 .0) (bits 64 (start .args .x)) (rows-are c) h rising count is
 
 counters-requires : tie.Need-counters-requires
 counters-requires c κs =
-    let made = c .before .before .before .before .before in
-    let start = made .before .before .before .before .before in
+    let made = c .before .before .before .before .before .before in
+    let start = made .before .before .before .before .before .before .before in
     let known = rows-ready made (start .args .key .h0) (start .pre .0 .0) in
     (known .0, (known .1 .0, (known .1 .1, start .pre .1 .0)))
 
 counters-requires-2 : tie.Need-counters-requires-2
 counters-requires-2 c κs =
-    let made = c .before .before .before .before .before .before .before .before .before .before .before in
-    let start = made .before .before .before .before .before in
+    let made = c .before .before .before .before .before .before .before .before .before .before .before .before in
+    let start = made .before .before .before .before .before .before .before in
     let known = rows-ready made (start .args .key .h1) (start .pre .0 .1) in
     (known .0, (known .1 .0, (known .1 .1, start .pre .1 .1)))
 
@@ -92,8 +95,8 @@ same-length-2 c = c .before .before .counters2 .kept .1 .1 .1 .1 .0
 
 returns : tie.Need-returns
 returns c =
-    let made = c .before .before .before .before .before .before .before .before .before .before .before .before .before .before in
-    let start = made .before .before .before .before .before in (
+    let made = c .before .before .before .before .before .before .before .before .before .before .before .before .before .before .before in
+    let start = made .before .before .before .before .before .before .before in (
       rows-counts made (start .args .key .h0) (c .before .before .before .before .before .before .before .before .counters .last .1 .1 .1 .1 .0) (start .pre .0 .0) (same-length c ∙ blank-length 24704 (start .pre .1 .0), c .before .before .before .before .before .before .before .before .counters .ensures),
       rows-counts made (start .args .key .h1) (c .before .before .counters2 .last .1 .1 .1 .1 .0) (start .pre .0 .1) (same-length-2 c ∙ blank-length 24704 (start .pre .1 .1), c .before .before .counters2 .ensures),
     )
@@ -104,12 +107,14 @@ count-spec =
     (tie.spec
     (λ c κs. search needs)
     (λ c κs. search needs)
+    (λ c κs. search needs)
+    (λ c. sym (blank-length 74112 (c .before .blank-rows .ensures)))
     rows-requires
     (λ c. search needs)
-    (λ c. search needs)
+    (λ c. sym (rows-are (c .before .before .before .before .before) .0))
     counters-requires
     (λ c. search needs)
-    (λ c. search needs)
+    (λ c. sym (rows-are (c .before .before .before .before .before .before .before .before .before .before .before) .0))
     counters-requires-2
     same-length
     same-length-2

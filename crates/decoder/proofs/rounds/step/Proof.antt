@@ -1,7 +1,8 @@
 -- `step`: black and gray from the same counters, and then the two masked steps.
 use mathlib.Core.Path.{_≡_, sym, ap, ap₂, _∙_}
 use mathlib.Core.Bool.{_&&_}
-use Prim.Native.Nat.{ℕ, _-_}
+use Prim.Native.Nat.{ℕ, _-_, _≤_, _<_}
+use native.Mathlib.Omega.{arith}
 use borrow.Author.Needs.{needs}
 use lib.Dec.{leb, ltb}
 use lib.ListN.{getD}
@@ -92,7 +93,8 @@ returns : tie.Need-returns
 returns c =
     let start = c .before .before .before .before .before .before .before .before .before .before .before .before .before .before .args in
     let l = levelOf (start .level) in
-    first-is (c .before) ∙ sym (step-later l (keyOf l (start .key)) (bits 64 (start .s)) (pairOf (start .e)) (start .i) (c .if1 .taken))
+    let later : 0 < start .i = omega arith in
+    first-is (c .before) ∙ sym (step-later l (keyOf l (start .key)) (bits 64 (start .s)) (pairOf (start .e)) (start .i) later)
 
 sub-marks : tie.Need-sub-marks
 sub-marks c = rw (c .before .before .before .before .before .before .before .before .before .before .before .before .before .before .bound-of .ensures) (threshold-least (c .before .before .before .before .before .before .before .before .before .before .before .before .before .before .before .before .args .level) _)
@@ -101,7 +103,7 @@ without-requires : tie.Need-without-requires
 without-requires c κs =
     let start = c .before .before .before .before .before .before .before .before .before .before .before .before .before .before .before .before .before .args in
     let l = levelOf (start .level) in
-    (inside-by (l .r) (wide-is c) (reaching-in (l .r) (keyOf l (start .key)) _ _), black-in (c .before .before .before .before .before))
+    inside-by (l .r) (wide-is c) (reaching-in (l .r) (keyOf l (start .key)) _ _)
 
 masked-step-requires : tie.Need-masked-step-requires
 masked-step-requires c κs =
@@ -128,10 +130,11 @@ returns-2 c =
     let h = keyOf l (start .key) in
     let s = bits 64 (start .s) in
     let marked = black-is (c .before .before .before .before .before .before .before .before) in
+    let first : start .i ≤ 0 = omega arith in
     c .masked-step2 .ensures
     ∙ ap₂ (maskedStep l h s) (c .before .before .without .ensures ∙ ap₂ without (wide-is (c .before .before .before)) marked)
     (c .before .masked-step .ensures ∙ ap₂ (maskedStep l h s) marked (first-is (c .before .before .before .before .before .before .before)))
-    ∙ sym (step-first l h s (pairOf (start .e)) (start .i) (c .before .before .before .before .before .before .if1 .left))
+    ∙ sym (step-first l h s (pairOf (start .e)) (start .i) first)
 
 pub step-spec : {M : Type 1} → statement M
 step-spec =
