@@ -5,30 +5,49 @@ use crate::error;
 use crate::refuse;
 use ring::WORDS;
 use ring::layout;
-use ring::multiply;
+use ring::positions;
 use ring::size;
+use ring::sparse::sparse;
 use ring::words;
 ghost use mathlib.Core.Path.{_≡_};
 ghost use mathlib.Core.Bool.{true};
 ghost use mathlib.Core.List.{[], _∷_, _++_};
+ghost use Prim.Native.Nat.{_≤_};
 ghost use lib.ListN.{length, take};
 ghost use Rattle.hashing.specs.Answers.Outcome.{gives};
 ghost use Rattle.hashing.specs.Lists.{bits};
 ghost use Rattle.hashing.specs.Sponge.{sha3-384};
 ghost use Rattle.ring.specs.Bytes.{bytesOf};
 ghost use Rattle.ring.specs.Levels.{known, levelOf, messageBytes, polyBytes, ciphertextBytes};
-ghost use Rattle.ring.specs.Polynomials.{InRing, add, mul};
+ghost use Rattle.ring.specs.Polynomials.{InRing, add, mul, weight};
 ghost use Rattle.exchange.specs.Promises.{wrap-says};
 ghost use Rattle.exchange.specs.Scheme.{hashK, xorBytes, wrapped};
+
+fn no_exponents() -> [u16; 199]
+    ensures { λ p. ⌜ 199 ≡ length p ⌝ }
+{
+    [0; 199]
+}
+
+// e1·h, over the exponents of e1: an error has few.
+fn error_times(level: u32, e1: [u64; WORDS], h: [u64; WORDS]) -> [u64; WORDS]
+    requires { ⌜ InRing (levelOf level .r) (bits 64 e1) × (weight (levelOf level .r) (bits 64 e1) ≤ 199) × InRing (levelOf level .r) (bits 64 h) ⌝ }
+    ensures { λ p. ⌜ bits 64 p ≡ mul (levelOf level .r) (bits 64 e1) (bits 64 h) ⌝ }
+{
+    let r = size::block(level);
+    let mut exponents = no_exponents();
+    let n = positions::rising(r, e1, &mut exponents);
+    sparse(r, &exponents, n, h)
+}
 
 // c0 = e0 + e1·h
 fn write_c0(level: u32, e0: [u64; WORDS], e1: [u64; WORDS], h: [u64; WORDS], out: &mut [u8])
     requires { ⌜ length (now out) ≡ polyBytes (levelOf level) ⌝ ∗ ⌜ InRing (levelOf level .r) (bits 64 e0) ⌝
-        ∗ ⌜ InRing (levelOf level .r) (bits 64 e1) ⌝ ∗ ⌜ InRing (levelOf level .r) (bits 64 h) ⌝ }
+        ∗ ⌜ InRing (levelOf level .r) (bits 64 e1) × (weight (levelOf level .r) (bits 64 e1) ≤ 199) × InRing (levelOf level .r) (bits 64 h) ⌝ }
     ensures { λ _. ⌜ now (out .exit) ≡ bytesOf (levelOf level .r) (add (bits 64 e0) (mul (levelOf level .r) (bits 64 e1) (bits 64 h))) ⌝ }
 {
     let r = size::block(level);
-    let product = multiply::multiply(r, e1, h);
+    let product = error_times(level, e1, h);
     words::store(words::sum(e0, product, r / 64 + 1), out);
 }
 

@@ -2,15 +2,10 @@
 use native.Mathlib.Omega.{arith}
 use borrow.Author.Needs.{needs}
 use Rattle.ring.specs.Bytes.{bytesOf}
-use Rattle.ring.proofs.Levels.{r-pos, r-odd, r-small, sizes}
+use Rattle.ring.proofs.Levels.{r-pos, sizes}
 use Rattle.ring.proofs.Ring.{mul-in}
 use Rattle.exchange.proofs.wrapping.write_c0.Statement.{statement}
 use Rattle.exchange.proofs.wrapping.write_c0.Tie as tie
-
-multiply-requires : tie.Need-multiply-requires
-multiply-requires c κs =
-    let start = c .before .before in
-    rw (c .block .ensures) ((r-odd (start .args .level), r-small (start .args .level)), start .pre .1 .1)
 
 sum-requires : tie.Need-sum-requires
 sum-requires c κs =
@@ -19,7 +14,7 @@ sum-requires c κs =
     let r = c .before .block .ensures in (
       omega arith,
       (λ k past. start .pre .1 .0 k (omega arith)),
-      (λ k past. rw (c .multiply .ensures, r) (mul-in _ (r-pos (start .args .level)) _ _ k (omega arith))),
+      (λ k past. rw (c .error-times .ensures) (mul-in _ (r-pos (start .args .level)) _ _ k (omega arith))),
     )
 
 returns : tie.Need-returns
@@ -28,14 +23,14 @@ returns c =
     let stored = c .before .before in
     let summed = stored .before .before in
     let start = summed .before .before .before .before in
-    rw (summed .sum .ensures, summed .before .multiply .ensures, summed .before .before .block .ensures, start .pre .0) at (stored .store .ensures)
+    rw (summed .sum .ensures, summed .before .error-times .ensures, start .pre .0) at (stored .store .ensures)
 
 pub write-c0-spec : {M : Type 1} → statement M
 write-c0-spec =
     tie.close
     (tie.spec
     (λ c κs. search needs)
-    multiply-requires
+    (λ c κs. c .before .before .pre .1 .1)
     (λ c. search needs)
     sum-requires
     (λ c κs. omega (arith, sizes (c .before .before .before .before .before .args .level)))

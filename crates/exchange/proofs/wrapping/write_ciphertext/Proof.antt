@@ -1,7 +1,7 @@
 -- `write_ciphertext` writes c0 at the front and c1 after it.
 use mathlib.Core.Path.{_≡_, sym, ap, ap₂, _∙_}
-use mathlib.Core.List.{_++_}
-use Prim.Native.Nat.{_≤_}
+use mathlib.Core.List.{List, _++_}
+use Prim.Native.Nat.{ℕ, _≤_}
 use native.Mathlib.Omega.{arith}
 use lib.ListN.{length, take}
 use lib.Seq.{length-take-le}
@@ -9,9 +9,10 @@ use borrow.Author.Needs.{needs}
 use Rattle.hashing.specs.Lists.{bits}
 use Rattle.ring.specs.Bytes.{bytesOf}
 use Rattle.ring.specs.Levels.{levelOf}
+use Rattle.ring.specs.Polynomials.{weight}
 use Rattle.ring.proofs.Layouts.{bits-bytesOf}
 use Rattle.exchange.specs.Scheme.{hashH, hashL, wrapped}
-use Rattle.exchange.proofs.Errors.{error-in0, error-in1}
+use Rattle.exchange.proofs.Errors.{error-in0, error-in1, error-weight}
 use Rattle.ring.proofs.Levels.{sizes}
 use Rattle.exchange.proofs.Parts.{two-parts, front-room}
 use Rattle.exchange.proofs.wrapping.write_ciphertext.Statement.{statement}
@@ -75,6 +76,10 @@ cut : (c : tie.After-polynomial) →
     length (take n (c .before .before .before .before .args .out .now)) ≡ n
 cut c = length-take-le _ _ (let long = c .before .before .before .before .pre .0 .2 in omega arith)
 
+-- "weight t"
+few : (level : ℕ) (m : List ℕ) → weight (levelOf level .r) (hashH (levelOf level) m .half1) ≤ 199
+few level m = omega (arith, error-weight level m, sizes level)
+
 write-c0-requires : tie.Need-write-c0-requires
 write-c0-requires c κs =
     let made = c .before .before .before .before .before .before .before .before in
@@ -85,6 +90,7 @@ write-c0-requires c κs =
         rw (w0-is (c .before .before .before .before)) (error-in0 l (start .args .message .now)),
         (
           rw (w1-is (c .before .before)) (error-in1 l (start .args .message .now)),
+          rw (w1-is (c .before .before)) (few (start .args .level) (start .args .message .now)),
           rw (c .before .load3 .ensures) (start .pre .1),
         ),
       ),
