@@ -1,5 +1,5 @@
 -- Laws of the decoder's definitions, and of what the code makes of them. Assumes nothing.
-use mathlib.Core.Path.{_≡_, refl, sym, ap, _∙_, fun-ext}
+use mathlib.Core.Path.{_≡_, refl, sym, ap, ap₂, _∙_, fun-ext}
 use mathlib.Core.Bool.{Bool, true, false, not, _&&_, and-false}
 use mathlib.Core.List.{List}
 use Prim.Native.Nat.{ℕ, zero, suc, _+_, _-_, _*_, _/_, _^_, _≤_, _<_}
@@ -9,13 +9,16 @@ use native.Mathlib.Numerals.{add-one}
 use native.Mathlib.Omega.{arith}
 use borrow.Author.Tests.{le-ltb}
 use lib.Dec.{leb, ltb, lit<, lit≤}
-use lib.ListN.{getD}
+use lib.ListN.{length, getD, take}
 use Rattle.ring.specs.Levels.{Level, level1, level3, levelOf}
-use Rattle.ring.specs.Polynomials.{Poly, InRing, flip, add, weight}
+use Rattle.ring.specs.Polynomials.{Poly, InRing, flip, add, weight, support}
+use Rattle.ring.proofs.Bools.{both-true}
 use Rattle.ring.proofs.Levels.{each, sizes}
 use Rattle.ring.proofs.Ring
 use Rattle.decoder.specs.Decoder.{counter, threshold, nothing, residual, reaching, among, without, flipped, black, gray, round, maskedStep, step, after, decoded, failed, found, Pair}
-use Rattle.decoder.specs.Working.{Counted}
+use Rattle.decoder.specs.PrivateKey.{positions0, positions1, secret, risingFrom, goodKey}
+use Rattle.decoder.specs.Working.{keyOf, Good, Counted}
+use Rattle.decoder.specs.declared.private_key
 use Rattle.ring.proofs.Weights.{weight-ext, weight-none, weight-add}
 
 pub pair-path : {e f : Pair} → e .half0 ≡ f .half0 → e .half1 ≡ f .half1 → e ≡ f
@@ -178,3 +181,18 @@ bounds level s = each (λ l. s ≤ l .r → Bounds l s) one three level
 pub threshold-least : (level s : ℕ) → 3 ≤ threshold (levelOf level) s
 unfolding level1 level3 threshold
 threshold-least level s = each (λ l. 3 ≤ threshold l s) (le-trans (lit≤ tt) (le-max-right _ 36)) (le-trans (lit≤ tt) (le-max-right _ 52)) level
+
+-- a key that was read from bytes: its polynomials, and what the test of its positions tells
+module _ (l : Level) (key : private_key.Key.Key) (bytes : List ℕ)
+    (read : ((length (key .h0) ≡ 103) × (take (l .d) (key .h0) ≡ positions0 l bytes)) × ((length (key .h1) ≡ 103) × (take (l .d) (key .h1) ≡ positions1 l bytes))) where
+  pub read-secret : keyOf l key ≡ secret l bytes
+  unfolding secret
+  read-secret = pair-path (ap support (read .0 .1)) (ap support (read .1 .1))
+
+  module _ {t : Bool} (test : t ≡ risingFrom (l .r) 0 (take (l .d) (key .h0)) && risingFrom (l .r) 0 (take (l .d) (key .h1))) where
+    pub read-good : t ≡ goodKey l bytes
+    unfolding goodKey
+    read-good = test ∙ ap₂ (λ (a b : List ℕ). risingFrom (l .r) 0 a && risingFrom (l .r) 0 b) (read .0 .1) (read .1 .1)
+
+    pub good-read : t ≡ true → Good l key
+    good-read good = let rise = both-true _ _ (sym test ∙ good) in ((read .0 .0, rise .0), (read .1 .0, rise .1))

@@ -2,15 +2,15 @@
 use mathlib.Core.Path.{_≡_, refl, sym, ap, ap₂, _∙_, fun-ext}
 use mathlib.Core.Bool.{Bool, true, false, true≢false}
 use mathlib.Core.List.{List, _++_}
-use Prim.Native.Nat.{ℕ, zero, suc, _+_, _^_, _≤_, _<_}
-use native.Mathlib.Decide.{ℕ-discrete, decLt}
+use Prim.Native.Nat.{ℕ, zero, suc, _+_, _≤_, _<_}
+use native.Mathlib.Decide.{ℕ-discrete}
 use native.Mathlib.Nat.{not-suc-le-zero}
 use native.Mathlib.Omega.{arith}
 use borrow.Author.Tests.{ltb-false}
 use lib.Bits.{bitXor, xor-self, xor-zero-r, xor-lt}
 use lib.Dec.{ltb, lit<}
-use lib.ListN.{length, getD, take, drop, length-take, length-drop, take-append-drop, List·getD-eq-default}
-use lib.Seq.{drop-at, length-take-le, getD-take, getD-drop}
+use lib.ListN.{length, getD, take, drop, length-drop, length-append, take-append-drop}
+use lib.Seq.{take-at, drop-at, length-take-le}
 use Rattle.hashing.specs.Lists.{tab, bits}
 use Rattle.hashing.specs.Sponge.{sha3-384}
 use Rattle.hashing.proofs.Lists.{length-tab, getD-tab, tab-getD, tab-ext}
@@ -20,16 +20,18 @@ use Rattle.ring.specs.Bytes.{bytesOf}
 use Rattle.ring.specs.Levels.{Level, messageBytes, polyBytes}
 use Rattle.ring.specs.Polynomials.{Poly, InRing, bit, same, weight, one, add, mul}
 use Rattle.ring.proofs.Inverses.{same-equal}
-use Rattle.ring.proofs.Layouts.{bytesOf-length, bytesOf-bits, pad-rule}
+use Rattle.ring.proofs.Layouts.{Below, bytesOf-length, bytesOf-below, bytesOf-bits, bytesOf-pad, pad-rule}
 use Rattle.ring.proofs.Parity.{flip-self, flip-false}
 use Rattle.ring.proofs.Ring
 use Rattle.ring.proofs.Bools.{both-true}
-use Rattle.decoder.proofs.Laws.{InPair, pair-path, below-in, decoded-in, found-of, found-none}
+use Rattle.exchange.proofs.Errors.{error-in0, error-in1}
+use Rattle.exchange.proofs.Streams.{below-append, below-take, below-drop, below-tab}
+use Rattle.decoder.proofs.Laws.{InPair, pair-path, decoded-in, residual-in, found-of, found-none}
 use Rattle.decoder.specs.Decoder.{nothing, residual, decoded, failed, found, Pair}
 use Rattle.exchange.specs.Fits.{Bytes, WellFormed, Fits}
 use Rattle.decoder.specs.PrivateKey.{secret, sigma}
-use Rattle.exchange.specs.Opening.{syndromeOf, messageOf, sameError, opened}
-use Rattle.exchange.specs.Scheme.{hashH, hashL, hashK, split, xorBytes, wrapped}
+use Rattle.exchange.specs.Opening.{syndromeOf, messageOf, sameError, keyFor, opened}
+use Rattle.exchange.specs.Scheme.{hashH, hashL, hashK, xorBytes, wrapped}
 
 -- exclusive or with the same bytes twice
 pub xor-twice : (a b : List ℕ) → length a ≡ messageBytes → xorBytes (xorBytes a b) b ≡ a
@@ -59,10 +61,10 @@ module _ (l : Level) {public private c m : List ℕ} where
 
   -- "If one fits, opening gives the session key that wrapping m gave"
   pub fitting-opens : Fits l public private c m → opened l private c ≡ hashK m c
-  unfolding opened sameError
+  unfolding opened keyFor sameError
   fitting-opens fits =
       let e : found l (secret l private) (syndromeOf l private c) ≡ hashH l m = found-of l _ _ (fits .decodes) ∙ fits .finds in
-      rw (e, fits-message fits, same-refl (l .r) (hashH l m .half0), same-refl (l .r) (hashH l m .half1), opened) (rw (e, fits-message fits))
+      rw (e, fits-message fits, same-refl (l .r) (hashH l m .half0), same-refl (l .r) (hashH l m .half1))
 
 -- "At most one m fits a ciphertext"
 pub at-most-one : (l : Level) {public private c m n : List ℕ} → Fits l public private c m → Fits l public private c n → m ≡ n
@@ -72,10 +74,6 @@ at-most-one l {c = c} fits other =
 -- "and no m fits two"
 pub no-two : (l : Level) {public private c d m : List ℕ} → Fits l public private c m → Fits l public private d m → c ≡ d
 no-two l fits other = sym (fits .wraps) ∙ other .wraps
-
-hashH-in : (l : Level) (m : List ℕ) → InPair (l .r) (hashH l m)
-unfolding hashH split
-hashH-in l m = (below-in (l .r) _, below-in (l .r) _)
 
 -- a polynomial of the ring with weight 0 is 0
 weightless : (r : ℕ) (a : Poly) → weight r a ≡ 0 → (k : ℕ) → k < r → a k ≡ false
@@ -94,10 +92,10 @@ weightless (suc r) a e k below = go (ℕ-discrete k r) (weightless r a (omega ar
 -- no bit is left where the decoder did not fail
 gone : (l : Level) (h : Pair) (s : Poly) → 0 < l .r → InRing (l .r) s → failed l h s ≡ false
     → residual (l .r) h s (decoded l h s) ≡ (λ k. false)
-unfolding failed residual
+unfolding failed
 gone l h s pos hs ok =
     Ring.ring-ext (l .r)
-    (Ring.add-in (l .r) hs (Ring.add-in (l .r) (Ring.mul-in (l .r) pos _ _) (Ring.mul-in (l .r) pos _ _)))
+    (residual-in (l .r) pos h (decoded l h s) hs)
     (λ k past. refl)
     (weightless (l .r) (residual (l .r) h s (decoded l h s)) (none _ ok))
   where
@@ -131,42 +129,41 @@ module _ (r : ℕ) (pos : 0 < r) where
       sym (undo k g c0 (matched .inverts) hc) ∙ ap (λ y. mul r y g) (sym equal) ∙ Ring.add-mul r _ _ g
       ∙ ap₂ add (undo k g (e .half0) (matched .inverts) he) (Ring.mul-assoc r pos (e .half1) (k .half1) g ∙ ap (mul r (e .half1)) (sym (matched .made)))
 
--- bytes stay bytes
-abbrev Small : List ℕ → Type 0
-Small xs = (i : ℕ) → getD xs i 0 < 2 ^ 8
-
-small-tab : (n : ℕ) (f : ℕ → ℕ) → ((i : ℕ) → f i < 2 ^ 8) → Small (tab n f)
-small-tab n f h i = go (decLt i n)
-  where
-    go : Dec (i < n) → getD (tab n f) i 0 < 2 ^ 8
-    go (yes below) = rw (getD-tab n f 0 i below) (h i)
-    go (no past) =
-        let out : length (tab n f) ≤ i = rw (length-tab n f) (omega arith) in rw (List·getD-eq-default (tab n f) 0 out) (lit< tt)
-
-small-take : (n : ℕ) (xs : List ℕ) → Small xs → Small (take n xs)
-small-take n xs h i = go (decLt i n)
-  where
-    go : Dec (i < n) → getD (take n xs) i 0 < 2 ^ 8
-    go (yes below) = rw (getD-take n xs i 0 below) (h i)
-    go (no past) =
-        let out : length (take n xs) ≤ i = omega (arith, length-take n xs) in rw (List·getD-eq-default (take n xs) 0 out) (lit< tt)
-
-small-drop : (n : ℕ) (xs : List ℕ) → Small xs → Small (drop n xs)
-small-drop n xs h i = rw (getD-drop n xs i 0) (h (n + i))
-
-hashL-small : (r : ℕ) (e : Pair) → Small (hashL r e)
+hashL-below : (r : ℕ) (e : Pair) → Below 8 (hashL r e)
 unfolding hashL sha3-384
-hashL-small r e =
-    let M = bytesOf r (e .half0) ++ bytesOf r (e .half1) in small-take messageBytes (sha3-384 M) (sponge-bytes 104 (lit< tt) 0x06 M 48)
+hashL-below r e =
+    let M = bytesOf r (e .half0) ++ bytesOf r (e .half1) in below-take 8 messageBytes (sha3-384 M) (sponge-bytes 104 (lit< tt) 0x06 M 48)
 
-messageOf-bytes : (l : Level) (e : Pair) (c : List ℕ) → Small c → Bytes messageBytes (messageOf l e c)
-unfolding messageOf xorBytes
-messageOf-bytes l e c hc =
-    let tail : Small (drop (polyBytes l) c) = small-drop (polyBytes l) c hc in
+xor-bytes : (a b : List ℕ) → Below 8 a → Below 8 b → Bytes messageBytes (xorBytes a b)
+unfolding xorBytes
+xor-bytes a b ha hb =
+    record { size = length-tab messageBytes _; small = below-tab 8 messageBytes _ (λ i. xor-lt 8 _ _ (ha i) (hb i)) }
+
+messageOf-bytes : (l : Level) (e : Pair) (c : List ℕ) → Below 8 c → Bytes messageBytes (messageOf l e c)
+unfolding messageOf
+messageOf-bytes l e c hc = xor-bytes _ _ (below-drop 8 (polyBytes l) c hc) (hashL-below (l .r) e)
+
+-- wrapping gives a well-formed ciphertext
+pub wrapped-well-formed : (l : Level) → 0 < l .r → (h : Poly) (m : List ℕ) → Below 8 m → WellFormed l (wrapped l h m)
+unfolding wrapped
+wrapped-well-formed l pos h m small =
     record {
-      size = length-tab messageBytes _;
-      small = small-tab messageBytes _ (λ i. xor-lt 8 _ _ (tail i) (hashL-small (l .r) e i));
+      bytes =
+          record {
+            size = length-append c0 c1 ∙ ap₂ _+_ (bytesOf-length (l .r) _) (second .size);
+            small = below-append 8 c0 c1 (bytesOf-below (l .r) _) (second .small);
+          };
+      noPad = rw (take-at c0 c1 (polyBytes l) (bytesOf-length (l .r) _)) (bytesOf-pad (l .r) (Ring.add-in (l .r) (error-in0 l m) (Ring.mul-in (l .r) pos _ _)));
     }
+  where
+    c0 : List ℕ
+    c0 = bytesOf (l .r) (add (hashH l m .half0) (mul (l .r) (hashH l m .half1) h))
+
+    c1 : List ℕ
+    c1 = xorBytes m (hashL (l .r) (hashH l m))
+
+    second : Bytes messageBytes c1
+    second = xor-bytes m (hashL (l .r) (hashH l m)) small (hashL-below (l .r) (hashH l m))
 
 module _ (l : Level) (pos : 0 < l .r) (public private c : List ℕ) (wellFormed : WellFormed l c) (matched : Matched (l .r) (bits 8 public) (secret l private)) where
   head : List ℕ
@@ -178,7 +175,7 @@ module _ (l : Level) (pos : 0 < l .r) (public private c : List ℕ) (wellFormed 
 
   head-in : InRing (l .r) (bits 8 head)
   unfolding head
-  head-in = pad-rule (l .r) head head-size (small-take (polyBytes l) c (wellFormed .bytes .small)) .0 (wellFormed .noPad)
+  head-in = pad-rule (l .r) head head-size (below-take 8 (polyBytes l) c (wellFormed .bytes .small)) .0 (wellFormed .noPad)
 
   -- where opening's check passes and decoding did not fail, the message that it worked out fits
   passes-fits : (e : Pair) → e ≡ decoded l (secret l private) (syndromeOf l private c) → failed l (secret l private) (syndromeOf l private c) ≡ false
@@ -200,7 +197,7 @@ module _ (l : Level) (pos : 0 < l .r) (public private c : List ℕ) (wellFormed 
           (rw is (gone l k s pos (Ring.mul-in (l .r) pos _ _) ok)))
 
       first : bytesOf (l .r) (bits 8 head) ≡ head
-      first = bytesOf-bits (l .r) head head-size (small-take (polyBytes l) c (wellFormed .bytes .small))
+      first = bytesOf-bits (l .r) head head-size (below-take 8 (polyBytes l) c (wellFormed .bytes .small))
 
       tail : xorBytes (messageOf l e c) (hashL (l .r) e) ≡ drop (polyBytes l) c
       tail =
@@ -227,7 +224,7 @@ module _ (l : Level) (pos : 0 < l .r) (public private c : List ℕ) (wellFormed 
       inside = rw is (decoded-in l (secret l private) (syndromeOf l private c))
 
       other : InPair (l .r) (hashH l (messageOf l e c))
-      other = hashH-in l (messageOf l e c)
+      other = (error-in0 l (messageOf l e c), error-in1 l (messageOf l e c))
 
       halves : (same (l .r) (e .half0) (hashH l (messageOf l e c) .half0) ≡ true) × (same (l .r) (e .half1) (hashH l (messageOf l e c) .half1) ≡ true)
       halves = both-true _ _ same-error
@@ -235,7 +232,7 @@ module _ (l : Level) (pos : 0 < l .r) (public private c : List ℕ) (wellFormed 
   -- "if none fits, the key worked out from the substitute sigma and this ciphertext"
   pub none-opens : ((m : List ℕ) → sameError (l .r) nothing (hashH l m) ≡ false) → ((m : List ℕ) → Fits l public private c m → ⊥)
       → opened l private c ≡ hashK (sigma l private) c
-  unfolding opened
+  unfolding opened keyFor
   none-opens weighty none = go (sameError (l .r) e (hashH l (messageOf l e c))) (failed l k s) refl refl
     where
       k : Pair
@@ -249,7 +246,7 @@ module _ (l : Level) (pos : 0 < l .r) (public private c : List ℕ) (wellFormed 
 
       go : (same-error failure : Bool) → sameError (l .r) e (hashH l (messageOf l e c)) ≡ same-error → failed l k s ≡ failure
           → opened l private c ≡ hashK (sigma l private) c
-      go false failure q p = rw (q, opened)
+      go false failure q p = rw q
       go true false q p = absurd (none (messageOf l e c) (same-fits p q))
       go true true q p =
           let at : sameError (l .r) nothing (hashH l (messageOf l nothing c)) ≡ true = rw (found-none l k s p) at q in

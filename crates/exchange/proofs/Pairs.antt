@@ -10,10 +10,10 @@ use lib.ListN.{length}
 use Rattle.hashing.specs.Answers.{Reason, Output, firstOf, content, settle}
 use Rattle.hashing.specs.Answers.Outcome.{gives}
 use Rattle.hashing.specs.Lists.{bits}
-use Rattle.ring.specs.Levels.{Level, known, levelOf, messageBytes, polyBytes, privateBytes}
-use Rattle.ring.specs.Polynomials.{InRing, same, weight, hasInverse, inverseOf}
+use Rattle.ring.specs.Levels.{Level, known, levelOf, messageBytes, polyBytes, ciphertextBytes, privateBytes}
+use Rattle.ring.specs.Polynomials.{same, weight, hasInverse, inverseOf}
 use Rattle.ring.proofs.Inverses.{inverse-found, same-true}
-use Rattle.ring.proofs.Layouts.{bits-bytesOf, bytesOf-length, bytesOf-below, pad-rule}
+use Rattle.ring.proofs.Layouts.{bits-bytesOf, bytesOf-pad}
 use Rattle.ring.proofs.Levels.{r-pos, sizes}
 use Rattle.ring.proofs.Ring.{mul-in}
 use Rattle.ring.proofs.Weights.{weight-ext, weight-none}
@@ -23,13 +23,14 @@ use Rattle.exchange.proofs.Lengths.{agree}
 use Rattle.exchange.proofs.Demand.{Matched, at-most-one, no-two, fitting-opens, none-opens}
 use Rattle.exchange.proofs.Errors.{error-weight}
 use Rattle.exchange.proofs.keys.Laws.{h0-half, h1-half}
+use Rattle.exchange.proofs.wrapping.Laws.{pad-clear}
 use Rattle.exchange.proofs.Making.{positions0-back, positions1-back, sigma-back, secret-back, rising-good}
 use Rattle.decoder.specs.Decoder.{nothing, Pair}
 use Rattle.decoder.specs.PrivateKey.{secret, goodKey, sigma}
 use Rattle.exchange.specs.Opening.{sameError, opened}
 use Rattle.exchange.specs.Fits.{FromKeyMaking, WellFormed, Fits}
 use Rattle.exchange.specs.Promises.{make-key-says, wrap-says, open-says, differs, seedBytes}
-use Rattle.exchange.specs.Scheme.{hashH, hashK, h0Of, h1Of, sigmaOf, publicOf, privateKey}
+use Rattle.exchange.specs.Scheme.{hashH, hashK, h0Of, h1Of, sigmaOf, publicOf, privateKey, wrapped}
 
 -- where the answer is 0, the first reason does not apply, and neither does one of the rest
 clear : (reason : Reason) (rest : List Reason) → 0 < reason .number → firstOf (reason ∷ rest) ≡ 0 → (reason .applies ≡ false) × (firstOf rest ≡ 0)
@@ -123,23 +124,6 @@ never-nothing level m = go (sameError (levelOf level .r) nothing (hashH (levelOf
     go true e = absurd (omega (arith, weighs-nothing (levelOf level .r) (hashH (levelOf level) m) e, error-weight level m, sizes level .t-least))
     go false e = refl
 
-same-size : (a b : ℕ) → a ≡ b → differs a b ≡ false
-unfolding differs
-same-size a b e = rw (eq-eqb a b e)
-
-none : firstOf [] ≡ 0
-unfolding firstOf
-none = refl
-
--- a reason that does not apply is passed over; where none applies, each output has its value
-pass : (reason : Reason) (rest : List Reason) → reason .applies ≡ false → firstOf (reason ∷ rest) ≡ firstOf rest
-unfolding firstOf
-pass reason rest e = rw (e, firstOf)
-
-done : (reasons : List Reason) (outputs : List Output) → firstOf reasons ≡ 0 → settle reasons outputs ≡ gives 0 (map (content 0) outputs)
-unfolding settle
-done reasons outputs e = rw e
-
 -- "If one fits, opening gives the session key that wrapping m gave; if none fits, the key worked out from the substitute sigma and this
 -- ciphertext, with the same answer number."
 pub record Demand3 (level : ℕ) (seed public private c : List ℕ) : Type 0 where
@@ -151,47 +135,48 @@ pub record Demand3 (level : ℕ) (seed public private c : List ℕ) : Type 0 whe
   pub if-none-fits : ((m : List ℕ) → Fits (levelOf level) public private c m → ⊥)
       → open-says level private c messageBytes ≡ gives 0 (hashK (sigmaOf seed) c ∷ [])
 
-module _ (level : ℕ) (seed public private c : List ℕ) (pair : FromKeyMaking level seed public private) (wellFormed : WellFormed (levelOf level) c) where
+module _ (level : ℕ) (seed public private : List ℕ) (pair : FromKeyMaking level seed public private) where
   made : Made level seed public private
   made = made-of level seed public private pair
 
-  opens : open-says level private c messageBytes ≡ gives 0 (opened (levelOf level) private c ∷ [])
-  unfolding open-says content
-  opens =
-      done _ _
-      (pass _ _ (ap not (made .levelKnown))
-      ∙ pass _ _ (rw (same-size _ _ (made .privateSize), same-size _ _ (wellFormed .bytes .size)) (same-size messageBytes messageBytes refl))
-      ∙ pass _ _ (wellFormed .noPad) ∙ pass _ _ (ap not (good level seed public private made)) ∙ none)
-
   public-pad : padSet (levelOf level .r) public ≡ false
   unfolding publicOf
-  public-pad =
-      rw (made .publicIs)
-      (pad-rule (levelOf level .r) _ (bytesOf-length (levelOf level .r) _) (bytesOf-below (levelOf level .r) _) .1
-      (rw (bits-bytesOf (levelOf level .r) public-in) public-in))
-    where
-      public-in : InRing (levelOf level .r) (publicOf (levelOf level) seed)
-      public-in = mul-in (levelOf level .r) (r-pos level) _ _
+  public-pad = rw (made .publicIs) (bytesOf-pad (levelOf level .r) (mul-in (levelOf level .r) (r-pos level) _ _))
 
-  wraps : (m : List ℕ) → Fits (levelOf level) public private c m → wrap-says level public m (length c) messageBytes ≡ gives 0 (c ∷ hashK m c ∷ [])
-  unfolding wrap-says content
-  wraps m fits =
-      done _ _
-      (pass _ _ (ap not (made .levelKnown))
-      ∙ pass _ _
-      (rw (same-size _ _ (made .publicSize), same-size _ _ (fits .message .size), same-size _ _ (wellFormed .bytes .size)) (same-size messageBytes messageBytes refl))
-      ∙ pass _ _ public-pad ∙ none)
-      ∙ ap (λ (d : List ℕ). gives 0 (d ∷ hashK m d ∷ [])) (fits .wraps)
+  -- to this public key every message wraps
+  pub wraps : (m : List ℕ) → length m ≡ messageBytes →
+      let c = wrapped (levelOf level) (bits 8 public) m in
+      wrap-says level public m (ciphertextBytes (levelOf level)) messageBytes ≡ gives 0 (c ∷ hashK m c ∷ [])
+  wraps m size = pad-clear level public m _ messageBytes (made .levelKnown) (made .publicSize) size refl refl public-pad
 
-  pub demand-3 : Demand3 level seed public private c
-  demand-3 =
-      record {
-        at-most-one = λ m n. at-most-one (levelOf level);
-        never-two = λ m d. no-two (levelOf level);
-        if-one-fits = λ m fits. (wraps m fits, opens ∙ ap (λ (key : List ℕ). gives 0 (key ∷ [])) (fitting-opens (levelOf level) fits));
-        if-none-fits = λ none.
-            opens
-            ∙ ap (λ (key : List ℕ). gives 0 (key ∷ []))
-            (none-opens (levelOf level) (r-pos level) public private c wellFormed (matched level seed public private made) (never-nothing level) none
-            ∙ ap (λ (last : List ℕ). hashK last c) (sigma-is level seed public private made));
-      }
+  module _ (c : List ℕ) (wellFormed : WellFormed (levelOf level) c) where
+    -- by this private key every well-formed ciphertext opens
+    pub opens : open-says level private c messageBytes ≡ gives 0 (opened (levelOf level) private c ∷ [])
+    unfolding open-says settle firstOf content differs
+    opens =
+        rw (
+          made .levelKnown,
+          eq-eqb _ _ (made .privateSize),
+          eq-eqb _ _ (wellFormed .bytes .size),
+          wellFormed .noPad,
+          good level seed public private made,
+        )
+
+    opens-with : {key : List ℕ} → opened (levelOf level) private c ≡ key → open-says level private c messageBytes ≡ gives 0 (key ∷ [])
+    opens-with is = opens ∙ ap (λ (key : List ℕ). gives 0 (key ∷ [])) is
+
+    pub demand-3 : Demand3 level seed public private c
+    demand-3 =
+        record {
+          at-most-one = λ m n. at-most-one (levelOf level);
+          never-two = λ m d. no-two (levelOf level);
+          if-one-fits = λ m fits. (
+            ap (λ (n : ℕ). wrap-says level public m n messageBytes) (wellFormed .bytes .size) ∙ wraps m (fits .message .size)
+                ∙ ap (λ (d : List ℕ). gives 0 (d ∷ hashK m d ∷ [])) (fits .wraps),
+            opens-with (fitting-opens (levelOf level) fits),
+          );
+          if-none-fits = λ none.
+              opens-with
+              (none-opens (levelOf level) (r-pos level) public private c wellFormed (matched level seed public private made) (never-nothing level) none
+              ∙ ap (λ (last : List ℕ). hashK last c) (sigma-is level seed public private made));
+        }

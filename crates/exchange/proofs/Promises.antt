@@ -5,7 +5,7 @@ use Prim.Native.Nat.{ℕ}
 use Rattle.hashing.specs.Answers.{Outcome}
 use Rattle.hashing.proofs.Answers.{just-one}
 use Rattle.exchange.specs.declared.record.Reading.{Reading}
-use Rattle.exchange.specs.Promises.{error-of-says, make-key-says, wrap-says}
+use Rattle.exchange.specs.Promises.{error-of-says, make-key-says, wrap-says, decode-says, open-says}
 use Rattle.exchange.specs.Records.{outcomeOf, read-record-says}
 use Rattle.exchange.proofs.record.Laws.{outcomeOf-one}
 
@@ -20,6 +20,14 @@ make-key-just-one level seed roomPublic roomPrivate = just-one (make-key-says le
 pub wrap-just-one : (level : ℕ) (h m : List ℕ) (roomCiphertext roomKey : ℕ) {one other : Outcome}
     → one ≡ wrap-says level h m roomCiphertext roomKey → other ≡ wrap-says level h m roomCiphertext roomKey → one ≡ other
 wrap-just-one level h m roomCiphertext roomKey = just-one (wrap-says level h m roomCiphertext) roomKey
+
+pub decode-just-one : (level : ℕ) (key s : List ℕ) (room0 room1 : ℕ) {one other : Outcome}
+    → one ≡ decode-says level key s room0 room1 → other ≡ decode-says level key s room0 room1 → one ≡ other
+decode-just-one level key s room0 room1 = just-one (decode-says level key s room0) room1
+
+pub open-just-one : (level : ℕ) (key c : List ℕ) (roomKey : ℕ) {one other : Outcome}
+    → one ≡ open-says level key c roomKey → other ≡ open-says level key c roomKey → one ≡ other
+open-just-one level key c roomKey = just-one (open-says level key c) roomKey
 
 -- the reader answers by an enum: one outcome, and so one reading
 pub read-record-just-one : (bytes : List ℕ) (one other : Reading)

@@ -1,7 +1,6 @@
 -- What the hash functions give are bytes, and the words of a stream have 32 bits. Assumes nothing.
 use mathlib.Core.List.{List, [], _∷_, _++_}
-use Prim.Native.Nat.{ℕ, zero, suc, _+_, _-_, _*_, _/_, _^_, _<_}
-use native.Mathlib.Nat.{mod-lt}
+use Prim.Native.Nat.{ℕ, zero, suc, _+_, _*_, _^_, _<_}
 use native.Mathlib.Decide.{decLt}
 use native.Mathlib.Omega.{arith}
 use lib.Dec.{lit<}
@@ -9,18 +8,19 @@ use lib.ListN.{getD, take, drop, List·getD-eq-default}
 use lib.Pow.{pow-pos}
 use lib.Seq.{getD-drop}
 use Rattle.hashing.specs.Lists.{tab}
-use Rattle.hashing.specs.Sponge.{byteOf, permuted, soaked, squeezed, sponge, shake256}
+use Rattle.hashing.specs.Sponge.{shake256}
+use Rattle.hashing.proofs.sponge.Squeezing.{sponge-bytes}
 use Rattle.ring.proofs.Layouts.{Below}
 use Rattle.ring.specs.Bytes.{numbers}
 use Rattle.ring.proofs.little_endian.Laws.{bytes-below, numbers-at, numbers-length}
 
 module _ (w : ℕ) where
-  below-append : (xs ys : List ℕ) → Below w xs → Below w ys → Below w (xs ++ ys)
+  pub below-append : (xs ys : List ℕ) → Below w xs → Below w ys → Below w (xs ++ ys)
   below-append [] ys first second i = second i
   below-append (x ∷ xs) ys first second zero = first zero
   below-append (x ∷ xs) ys first second (suc i) = below-append xs ys (λ j. first (suc j)) second i
 
-  below-take : (n : ℕ) (xs : List ℕ) → Below w xs → Below w (take n xs)
+  pub below-take : (n : ℕ) (xs : List ℕ) → Below w xs → Below w (take n xs)
   below-take zero xs small i = pow-pos w
   below-take (suc n) [] small i = pow-pos w
   below-take (suc n) (x ∷ xs) small zero = small zero
@@ -33,21 +33,14 @@ module _ (w : ℕ) where
   below-one x small zero = small
   below-one x small (suc i) = pow-pos w
 
-  below-tab : (n : ℕ) (f : ℕ → ℕ) → ((k : ℕ) → f k < 2 ^ w) → Below w (tab n f)
+  pub below-tab : (n : ℕ) (f : ℕ → ℕ) → ((k : ℕ) → f k < 2 ^ w) → Below w (tab n f)
   unfolding tab
   below-tab zero f small i = pow-pos w
   below-tab (suc n) f small i = below-append (tab n f) (f n ∷ []) (below-tab n f small) (below-one (f n) (small n)) i
 
-squeezed-below : (rate : ℕ) (S : List ℕ) (n : ℕ) → Below 8 (squeezed rate S n)
-unfolding squeezed byteOf
-squeezed-below rate S zero i = pow-pos 8
-squeezed-below rate S (suc n) i =
-    below-append 8 (squeezed rate S n) (tab rate (byteOf (permuted n S))) (squeezed-below rate S n)
-    (below-tab 8 rate (byteOf (permuted n S)) (λ k. mod-lt _ (lit< tt))) i
-
 pub shake256-below : (M : List ℕ) (n : ℕ) → Below 8 (shake256 M n)
-unfolding shake256 sponge
-shake256-below M n = below-take 8 n _ (squeezed-below 136 (soaked 136 0x1f M) ((n + 136 - 1) / 136))
+unfolding shake256
+shake256-below M n = sponge-bytes 136 (lit< tt) 0x1f M n
 
 pub words-below : (n : ℕ) (bytes : List ℕ) → Below 8 bytes → (i : ℕ) → getD (numbers 4 n bytes) i 0 < 2 ^ 32
 words-below n bytes small i = go (decLt i n)

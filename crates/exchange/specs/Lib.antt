@@ -5,4 +5,3 @@ pub mod Promises
 pub mod Records
 pub mod Sampler
 pub mod Scheme
-pub mod Session

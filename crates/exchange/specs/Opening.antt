@@ -18,12 +18,17 @@ syndromeOf l key c = mul (l .r) (bits 8 (take (polyBytes l) c)) (secret l key .h
 unfoldable pub messageOf : Level → Pair → List ℕ → List ℕ
 messageOf l e c = xorBytes (drop (polyBytes l) c) (hashL (l .r) e)
 
--- "If e' = H(m') in every bit the key is K(m', c), else K(sigma, c)"
+-- "in every bit"
 unfoldable pub sameError : ℕ → Pair → Pair → Bool
 sameError r e f = same r (e .half0) (f .half0) && same r (e .half1) (f .half1)
 
+abbrev pub either : Bool → List ℕ → List ℕ → List ℕ
+either t a b = elim t [ true ↦ a | false ↦ b ]
+
+-- "If e' = H(m') in every bit the key is K(m', c), else K(sigma, c)"
+unfoldable pub keyFor : Level → List ℕ → List ℕ → Pair → List ℕ
+keyFor l substitute c e =
+    let m = messageOf l e c in hashK (either (sameError (l .r) e (hashH l m)) m substitute) c
+
 unfoldable pub opened : Level → List ℕ → List ℕ → List ℕ
-opened l key c =
-    let e = found l (secret l key) (syndromeOf l key c) in
-    let m = messageOf l e c in
-    hashK (elim (sameError (l .r) e (hashH l m)) [ true ↦ m | false ↦ sigma l key ]) c
+opened l key c = keyFor l (sigma l key) c (found l (secret l key) (syndromeOf l key c))

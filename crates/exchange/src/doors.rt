@@ -3,7 +3,7 @@ ghost use mathlib.Core.Path.{_≡_};
 ghost use mathlib.Core.List.{[], _∷_};
 ghost use lib.ListN.{length};
 ghost use Rattle.hashing.specs.Answers.Outcome.{gives};
-ghost use Rattle.exchange.specs.Promises.{make-key-says, wrap-says};
+ghost use Rattle.exchange.specs.Promises.{make-key-says, wrap-says, open-says};
 
 #[no_mangle]
 pub extern "C" fn bike_make_key(
@@ -32,4 +32,18 @@ pub extern "C" fn bike_wrap(
         ≡ wrap-says level (now («public_key» .entry)) (now (message .entry)) (length (now (ciphertext .entry))) (length (now («session_key» .entry))) ⌝ }
 {
     crate::wrap(level, public_key, message, ciphertext, session_key)
+}
+
+#[no_mangle]
+pub extern "C" fn bike_open(
+    level: u32,
+    private_key: &[u8],
+    ciphertext: &[u8],
+    session_key: &mut [u8],
+) -> u32
+    ensures { λ r.
+        ⌜ gives r (now («session_key» .exit) ∷ [])
+        ≡ open-says level (now («private_key» .entry)) (now (ciphertext .entry)) (length (now («session_key» .entry))) ⌝ }
+{
+    crate::open(level, private_key, ciphertext, session_key)
 }

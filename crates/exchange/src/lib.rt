@@ -19,10 +19,10 @@ ghost use mathlib.Core.Path.{_≡_};
 ghost use mathlib.Core.List.{[], _∷_};
 ghost use lib.ListN.{length, replicate};
 ghost use Rattle.hashing.specs.Answers.Outcome.{gives};
-ghost use Rattle.exchange.specs.Promises.{error-of-says, make-key-says, wrap-says, decode-says};
+ghost use Rattle.exchange.specs.Promises.{error-of-says, make-key-says, wrap-says, decode-says, open-says};
 
 // A refusal: its number, and zeros in both outputs.
-fn refuse(number: u32, out0: &mut [u8], out1: &mut [u8]) -> u32
+pub fn refuse(number: u32, out0: &mut [u8], out1: &mut [u8]) -> u32
     ensures { λ r.
         ⌜ (r ≡ number)
         × (now (out0 .exit) ≡ replicate (length (now (out0 .entry))) 0)
@@ -127,4 +127,35 @@ pub fn decode(level: u32, private_key: &[u8], syndrome: &[u8], e0: &mut [u8], e1
         return 6;
     }
     0
+}
+
+// Opening: the session key of a ciphertext under a private key. A ciphertext that no message fits has the answer 0 too.
+pub fn open(level: u32, private_key: &[u8], ciphertext: &[u8], session_key: &mut [u8]) -> u32
+    ensures { λ r.
+        ⌜ gives r (now («session_key» .exit) ∷ [])
+        ≡ open-says level (now («private_key» .entry)) (now (ciphertext .entry)) (length (now («session_key» .entry))) ⌝ }
+{
+    if !level::known(level) {
+        fill::zero(session_key);
+        return 1;
+    }
+    let n = size::polynomial(level);
+    if (private_key.len() != size::private_key(level))
+        | (ciphertext.len() != size::ciphertext(level))
+        | (session_key.len() != size::MESSAGE)
+    {
+        fill::zero(session_key);
+        return 2;
+    }
+    if pad_set(size::block(level), &ciphertext[..n]) {
+        fill::zero(session_key);
+        return 3;
+    }
+    let key = decoder::read_key(level, private_key);
+    if !decoder::is_good(level, key) {
+        fill::zero(session_key);
+        return 4;
+    }
+    let at = 4 * size::key_weight(level);
+    opening::write(level, key, &private_key[at..], ciphertext, session_key)
 }

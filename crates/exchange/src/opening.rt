@@ -4,8 +4,10 @@ use crate::digest::digest32;
 use crate::digest::no_digest;
 use crate::error;
 use crate::wrapping;
+use decoder::Key;
 use ring::WORDS;
 use ring::size;
+use ring::sparse::sparse;
 use ring::words;
 ghost use mathlib.Core.Path.{_≡_};
 ghost use mathlib.Core.Bool.{true, false};
@@ -16,9 +18,11 @@ ghost use Rattle.hashing.specs.Lists.{bits};
 ghost use Rattle.hashing.specs.Sponge.{sha3-384};
 ghost use Rattle.ring.specs.Bytes.{bytesOf};
 ghost use Rattle.ring.specs.Levels.{levelOf, messageBytes, polyBytes, ciphertextBytes};
-ghost use Rattle.ring.specs.Polynomials.{InRing, Tells};
+ghost use Rattle.ring.specs.Polynomials.{InRing, Tells, mul};
+ghost use Rattle.exchange.specs.Opening.{either, keyFor};
+ghost use Rattle.decoder.specs.Decoder.{found};
 ghost use Rattle.exchange.specs.Scheme.{xorBytes};
-ghost use Rattle.exchange.specs.Session.{either, errorIn, keyFor};
+ghost use Rattle.decoder.specs.Working.{keyOf, Good};
 
 // An error's bytes, each half at the front of its array.
 fn stored(level: u32, e0: [u64; WORDS], e1: [u64; WORDS]) -> error::Halves
@@ -82,18 +86,18 @@ fn chosen(own: bool, m: [u8; 32], sigma: &[u8]) -> [u8; 32]
     out
 }
 
-// The session key that goes with an error: of m' where the error is that of m', else of sigma.
-pub fn write_session_key(
+// The session key that goes with an error: of m' where the error is that of m', else of sigma. The answer is the same.
+fn write_session_key(
     level: u32,
     e0: [u64; WORDS],
     e1: [u64; WORDS],
     sigma: &[u8],
     ciphertext: &[u8],
     out: &mut [u8],
-)
+) -> u32
     requires { ⌜ (length (now sigma) ≡ messageBytes) × (length (now ciphertext) ≡ ciphertextBytes (levelOf level)) × (length (now out) ≡ messageBytes) ⌝
         ∗ ⌜ InRing (levelOf level .r) (bits 64 e0) ⌝ ∗ ⌜ InRing (levelOf level .r) (bits 64 e1) ⌝ }
-    ensures { λ _. ⌜ now (out .exit) ≡ keyFor (levelOf level) (now (sigma .entry)) (now (ciphertext .entry)) (errorIn e0 e1) ⌝ }
+    ensures { λ r. ⌜ (r ≡ 0) × (now (out .exit) ≡ keyFor (levelOf level) (now (sigma .entry)) (now (ciphertext .entry)) (record { half0 = bits 64 e0; half1 = bits 64 e1 })) ⌝ }
 {
     let e = stored(level, e0, e1);
     let m = message_of(level, e, ciphertext);
@@ -101,4 +105,30 @@ pub fn write_session_key(
     let own = same_error(level, e, again);
     let secret = chosen(own, m, sigma);
     wrapping::write_key(&secret, ciphertext, out);
+    0
+}
+
+// The syndrome of a ciphertext: c0·h0.
+fn syndrome(level: u32, key: Key, c0: [u64; WORDS]) -> [u64; WORDS]
+    requires { ⌜ Good (levelOf level) key ⌝ ∗ ⌜ InRing (levelOf level .r) (bits 64 c0) ⌝ }
+    ensures { λ s. ⌜ bits 64 s ≡ mul (levelOf level .r) (bits 64 c0) (keyOf (levelOf level) key .half0) ⌝ }
+{
+    let h0 = key.h0;
+    sparse(size::block(level), &h0, size::key_weight(level), c0)
+}
+
+// Opening under a good key.
+pub fn write(level: u32, key: Key, sigma: &[u8], ciphertext: &[u8], session_key: &mut [u8]) -> u32
+    requires { ⌜ (length (now sigma) ≡ messageBytes) × (length (now ciphertext) ≡ ciphertextBytes (levelOf level)) × (length (now «session_key») ≡ messageBytes) ⌝
+        ∗ ⌜ Good (levelOf level) key ⌝ ∗ ⌜ InRing (levelOf level .r) (bits 8 (take (polyBytes (levelOf level)) (now ciphertext))) ⌝ }
+    ensures { λ r. ⌜ (r ≡ 0) × (now («session_key» .exit) ≡ keyFor (levelOf level) (now (sigma .entry)) (now (ciphertext .entry))
+        (found (levelOf level) (keyOf (levelOf level) key)
+        (mul (levelOf level .r) (bits 8 (take (polyBytes (levelOf level)) (now (ciphertext .entry)))) (keyOf (levelOf level) key .half0)))) ⌝ }
+{
+    let n = size::polynomial(level);
+    let s = syndrome(level, key, words::load(&ciphertext[..n]));
+    let e = decoder::find(level, key, s);
+    let e0 = e.e0;
+    let e1 = e.e1;
+    write_session_key(level, e0, e1, sigma, ciphertext, session_key)
 }

@@ -107,3 +107,7 @@ pad-rule r xs long small = (there, back)
             rw (number-bitAt 8 last, mod-eq-of-lt (small (r / 8))) at
             (number-below 8 (r % 8) (bitAt last)
             (λ j from below. sym (bits-at 8 (lit< tt) xs (r / 8) j below) ∙ ha (r / 8 * 8 + j) (omega arith)))
+
+-- the bytes of a polynomial of the ring have no pad bit
+pub bytesOf-pad : (r : ℕ) {a : Poly} → InRing r a → padSet r (bytesOf r a) ≡ false
+bytesOf-pad r {a} ha = pad-rule r (bytesOf r a) (bytesOf-length r a) (bytesOf-below r a) .1 (rw (bits-bytesOf r ha) ha)

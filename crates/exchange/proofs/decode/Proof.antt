@@ -1,6 +1,6 @@
 -- `decode` goes down document 01's column, and gives what the decoder finds: its error, or zeros with 6.
 use mathlib.Core.Path.{_≡_, sym, ap, ap₂, _∙_}
-use mathlib.Core.Bool.{false, _&&_}
+use mathlib.Core.Bool.{false}
 use mathlib.Core.List.{List, [], _∷_}
 use Prim.Native.Nat.{ℕ, _<_}
 use native.Mathlib.Omega.{arith}
@@ -14,16 +14,16 @@ use Rattle.hashing.specs.Lists.{tab, bits}
 use Rattle.hashing.proofs.Lists.{length-tab, getD-tab}
 use Rattle.ring.specs.Bytes.{number, listOf, bytesOf, byteLength, padSet}
 use Rattle.ring.specs.Levels.{levelOf, polyBytes, privateBytes}
-use Rattle.ring.specs.Polynomials.{Poly, InRing, support}
+use Rattle.ring.specs.Polynomials.{Poly, InRing}
 use Rattle.ring.proofs.Layouts.{pad-rule}
 use Rattle.decoder.specs.Decoder.{nothing, failed, found, Pair}
-use Rattle.decoder.specs.PrivateKey.{secret, risingFrom, goodKey}
+use Rattle.decoder.specs.PrivateKey.{secret, goodKey}
 use Rattle.exchange.specs.Promises.{differs, decode-says}
 use Rattle.decoder.specs.Working.{keyOf}
-use Rattle.ring.proofs.Bools.{both-true, both-false}
+use Rattle.ring.proofs.Bools.{both-false}
 use Rattle.exchange.proofs.Lengths.{agree}
 use Rattle.ring.proofs.Levels.{sizes}
-use Rattle.decoder.proofs.Laws.{pair-path, found-of, found-none}
+use Rattle.decoder.proofs.Laws.{found-of, found-none, read-secret, read-good, good-read}
 use Rattle.exchange.proofs.decode.Statement.{statement}
 use Rattle.exchange.proofs.decode.Tie as tie
 
@@ -113,12 +113,7 @@ read-key-requires c κs = lengths (c .before .before .before) .0
 good-is : (c : tie.After-is-good) →
     let given = c .before .before .before .before .before .before .before .before .before .before .before .before .before .before .args in
     c .is-good .result ≡ goodKey (levelOf (given .level)) (given .private-key .now)
-unfolding goodKey
-good-is c =
-    let given = c .before .before .before .before .before .before .before .before .before .before .before .before .before .before .args in
-    let r = levelOf (given .level) .r in
-    let read = c .before .read-key .ensures in
-    c .is-good .ensures ∙ ap₂ (λ (a b : List ℕ). risingFrom r 0 a && risingFrom r 0 b) (read .0 .1) (read .1 .1)
+good-is c = read-good _ (c .before .read-key .result) _ (c .before .read-key .ensures) (c .is-good .ensures)
 
 returns-4 : tie.Need-returns-4
 unfolding decode-says settle firstOf content differs
@@ -151,16 +146,14 @@ load-requires c κs =
 find-requires : tie.Need-find-requires
 find-requires c κs =
     let tested = c .before in
-    let read = tested .before .before .read-key .ensures in
-    let rise = both-true _ _ (sym (tested .before .is-good .ensures) ∙ not-false _ (tested .if4 .left)) in
-    (((read .0 .0, rise .0), (read .1 .0, rise .1)), rw (c .load .ensures) (inside (tested .before .before .before)))
+    let good = good-read _ (tested .before .before .read-key .result) _ (tested .before .before .read-key .ensures) (tested .before .is-good .ensures) (not-false _ (tested .if4 .left)) in
+    (good, rw (c .load .ensures) (inside (tested .before .before .before)))
 
 -- the key that was read is the secret
 key-is : (c : tie.After-read-key) →
     let given = c .before .before .before .before .before .before .before .before .before .before .before .before .before .args in
     keyOf (levelOf (given .level)) (c .read-key .result) ≡ secret (levelOf (given .level)) (given .private-key .now)
-unfolding secret
-key-is c = pair-path (ap support (c .read-key .ensures .0 .1)) (ap support (c .read-key .ensures .1 .1))
+key-is c = read-secret _ (c .read-key .result) _ (c .read-key .ensures)
 
 failed-is : (c : tie.After-find) →
     let given = c .before .before .before .before .before .before .before .before .before .before .before .before .before .before .before .before .before .args in

@@ -2,7 +2,7 @@
 use mathlib.Core.Path.{_≡_, refl, sym, ap, _∙_, fun-ext}
 use mathlib.Core.Bool.{Bool, false, _&&_, _||_, and-false, or-false, and-or-distrib-left}
 use mathlib.Core.List.{List}
-use Prim.Native.Nat.{ℕ, zero, suc, _+_, _-_, _*_, _/_, _%_, _^_, _≤_, _<_}
+use Prim.Native.Nat.{ℕ, _+_, _-_, _*_, _/_, _%_, _^_, _≤_, _<_}
 use native.Mathlib.Nat.{one-mul, zero-add, div-add-mod', le-refl}
 use native.Mathlib.Decide.{decLt, ℕ-discrete}
 use native.Mathlib.Numerals.{add-one}
@@ -15,7 +15,7 @@ use lib.Pow.{pow-pos, pow-lt}
 use lib.Seq.{getD-set-same, getD-set-other, take-suc}
 use borrow.Author.Tests.{lt-ltb, le-ltb, eq-eqb, ne-eqb}
 use Rattle.hashing.specs.Lists.{bitAt, bits}
-use Rattle.hashing.proofs.Words.{bit-zero, bit-or, bit-above, bit-shl, bit-shl-below}
+use Rattle.hashing.proofs.Words.{bit-or, bit-above, bit-shl, bit-shl-below, zero-at, bits-none}
 use Rattle.ring.specs.Polynomials.{Poly, listed}
 use Rattle.ring.proofs.Layouts.{Below}
 use Rattle.ring.proofs.Parity.{eqb-same}
@@ -68,19 +68,13 @@ module _ (r from position : ℕ) where
 
 -- ---- the loop that puts in the positions of a list
 
-getD-zeros : (n i : ℕ) → _≡_ {A = ℕ} (getD (replicate n 0) i 0) 0
-getD-zeros zero i = refl
-getD-zeros (suc n) zero = refl
-getD-zeros (suc n) (suc i) = getD-zeros n i
-
 pub zeros-below : (w n : ℕ) → Below w (replicate n 0)
-zeros-below w n i = rw (getD-zeros n i) (pow-pos w)
+zeros-below w n i = rw (zero-at n i) (pow-pos w)
 
 module _ (r from : ℕ) (list : List ℕ) where
   pub placed-none : (w n : ℕ) → bits w (replicate n 0) ≡ (λ k. ltb k r && listed (from + k) (take 0 list))
-  unfolding bits listed
-  placed-none w n =
-      fun-ext (λ k. rw (getD-zeros n (k / w), bit-zero (k % w)) (sym (and-false (ltb k r))))
+  unfolding listed
+  placed-none w n = fun-ext (λ k. bits-none w n k ∙ sym (and-false (ltb k r)))
 
   pub placed-more : (i : ℕ) {before after : Poly} → i < length list
       → before ≡ (λ k. ltb k r && listed (from + k) (take i list))

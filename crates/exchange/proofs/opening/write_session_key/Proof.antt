@@ -1,17 +1,22 @@
 -- `write_session_key` hashes m' again and chooses by the comparison.
-use mathlib.Core.Path.{_≡_, ap, _∙_}
+use mathlib.Core.Path.{_≡_, refl, ap, _∙_}
 use mathlib.Core.List.{List}
 use Prim.Native.Nat.{ℕ}
 use borrow.Author.Needs.{needs}
+use Rattle.hashing.specs.Lists.{bits}
 use Rattle.ring.specs.Levels.{levelOf}
-use Rattle.exchange.specs.Opening.{messageOf, sameError}
+use Rattle.exchange.specs.Opening.{messageOf, sameError, either, keyFor}
+use Rattle.decoder.specs.Decoder.{Pair}
 use Rattle.exchange.specs.Scheme.{hashH, hashL, hashK}
-use Rattle.exchange.specs.Session.{either, errorIn, keyFor}
 use Rattle.exchange.proofs.Errors.{error-in0, error-in1}
 use Rattle.exchange.proofs.Parts.{front-room}
 use Rattle.exchange.proofs.opening.Laws.{error-tells}
 use Rattle.exchange.proofs.opening.write_session_key.Statement.{statement}
 use Rattle.exchange.proofs.opening.write_session_key.Tie as tie
+
+-- the error that two arrays of words hold
+abbrev errorIn : List ℕ → List ℕ → Pair
+errorIn e0 e1 = record { half0 = bits 64 e0; half1 = bits 64 e1 }
 
 message-of-requires : tie.Need-message-of-requires
 message-of-requires c κs =
@@ -56,9 +61,11 @@ returns c =
     let made = compared .before .before .before in
     let given = made .before .before .before .before .before .args in
     let l = levelOf (given .level) in
-    let e = errorIn (given .e0) (given .e1) in
-    (rw (chosen .chosen .ensures, own compared) at (written .write-key .ensures))
-    ∙ ap (λ (m : List ℕ). hashK (either (sameError (l .r) e (hashH l m)) m (given .sigma .now)) (given .ciphertext .now)) (message made)
+    let e = errorIn (given .e0) (given .e1) in (
+      refl,
+      (rw (chosen .chosen .ensures, own compared) at (written .write-key .ensures))
+          ∙ ap (λ (m : List ℕ). hashK (either (sameError (l .r) e (hashH l m)) m (given .sigma .now)) (given .ciphertext .now)) (message made),
+    )
 
 pub write-session-key-spec : {M : Type 1} → statement M
 write-session-key-spec =
