@@ -1,0 +1,54 @@
+-- What both ends of an exchange hold in the end: of a seed, by key making, and of a message that is wrapped and opened. Assumes nothing.
+use mathlib.Core.Path.{_≡_}
+use mathlib.Core.Bool.{false, not, _||_}
+use mathlib.Core.List.{List, [], _∷_}
+use Prim.Native.Nat.{ℕ}
+use lib.ListN.{length}
+use Rattle.hashing.specs.Answers.{Outcome, settle}
+use Rattle.ring.specs.Bytes.{bytesOf}
+use Rattle.ring.specs.Levels.{Level, known, levelOf, messageBytes}
+use Rattle.ring.specs.Polynomials.{hasInverse}
+use Rattle.decoder.specs.Decoder.{decoded, failed}
+use Rattle.decoder.specs.PrivateKey.{secret}
+use Rattle.exchange.specs.Fits.{Fits}
+use Rattle.exchange.specs.Opening.{syndromeOf, opened}
+use Rattle.exchange.specs.Promises.{seedBytes, differs}
+use Rattle.exchange.specs.Scheme.{hashH, hashK, h0Of, h1Of, sigmaOf, publicOf, privateKey, wrapped}
+
+-- the controller's private key, and what the app sends
+unfoldable pub privateOf : Level → List ℕ → List ℕ
+privateOf l seed = privateKey (l .r) (h0Of l seed) (h1Of l seed) (sigmaOf seed)
+
+unfoldable pub sentTo : Level → List ℕ → List ℕ → List ℕ
+sentTo l seed m = wrapped l (publicOf l seed) m
+
+-- 1, 2, and 5 as in key making; else the key of each end
+unfoldable pub both-ends-says : ℕ → List ℕ → List ℕ → ℕ → ℕ → Outcome
+both-ends-says level seed m roomSent roomOpened =
+    let l = levelOf level in
+    let c = sentTo l seed m in
+    settle
+    (record { applies = not (known level); number = 1 }
+    ∷ record {
+      applies = differs (length seed) seedBytes || differs (length m) messageBytes || differs roomSent messageBytes || differs roomOpened messageBytes;
+      number = 2;
+    }
+    ∷ record { applies = not (hasInverse (l .r) (h0Of l seed)); number = 5 }
+    ∷ [])
+    (record { room = roomSent; value = hashK m c } ∷ record { room = roomOpened; value = opened l (privateOf l seed) c } ∷ [])
+
+-- "the decoder finds the message's error"
+pub record Finds (l : Level) (seed m : List ℕ) : Type 0 where
+  pub decodes : failed l (secret l (privateOf l seed)) (syndromeOf l (privateOf l seed) (sentTo l seed m)) ≡ false
+  pub finds : decoded l (secret l (privateOf l seed)) (syndromeOf l (privateOf l seed) (sentTo l seed m)) ≡ hashH l m
+
+-- n fits what is sent
+abbrev pub FitsSent : Level → List ℕ → List ℕ → List ℕ → Type 0
+FitsSent l seed m n = Fits l (bytesOf (l .r) (publicOf l seed)) (privateOf l seed) (sentTo l seed m) n
+
+-- "the same session key at both ends whenever the decoder finds the message's error, and the substitute's key otherwise": it may be that
+-- the decoder finds the error of another message that fits, and then the key is that one's
+pub record Agree (l : Level) (seed m sent opened : List ℕ) : Type 0 where
+  pub same : Finds l seed m → opened ≡ sent
+  pub another : (n : List ℕ) → FitsSent l seed m n → opened ≡ hashK n (sentTo l seed m)
+  pub substitute : ((n : List ℕ) → FitsSent l seed m n → ⊥) → opened ≡ hashK (sigmaOf seed) (sentTo l seed m)
