@@ -1,4 +1,4 @@
-/* Case files: reading, writing and running a case. */
+/* Case files: reading, writing and running a case; and what the programs say of bad arguments. */
 #include "casefile.h"
 
 #include <stdlib.h>
@@ -100,10 +100,8 @@ static uint32_t call(const struct test_case *c, uint8_t *const in[2], uint8_t *c
 static uint8_t *exactly(size_t n)
 {
     uint8_t *bytes = malloc(n);
-    if (bytes == NULL && n > 0) {
-        fputs("out of memory\n", stderr);
-        exit(2);
-    }
+    if (bytes == NULL && n > 0)
+        refuse("case", "out of memory", "");
     return bytes;
 }
 
@@ -162,4 +160,19 @@ void case_print(FILE *file, unsigned long ordinal, const struct test_case *c, co
         fprintf(file, " %lu %lu %lu", (unsigned long)result->record.level, (unsigned long)result->record.thing,
                 (unsigned long)result->record.body);
     putc('\n', file);
+}
+
+_Noreturn void refuse(const char *program, const char *why, const char *what)
+{
+    fprintf(stderr, "%s: %s%s\n", program, why, what);
+    exit(2);
+}
+
+unsigned long number_of(const char *program, const char *text, unsigned long most)
+{
+    char *end;
+    unsigned long n = strtoul(text, &end, 10);
+    if (text[0] < '0' || text[0] > '9' || *end != '\0' || n > most)
+        refuse(program, "not a number, or too large: ", text);
+    return n;
 }

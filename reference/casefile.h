@@ -46,4 +46,9 @@ void case_run(const struct test_case *c, struct result *result);
 bool case_same(const struct test_case *c, const struct result *a, const struct result *b);
 void case_print(FILE *file, unsigned long ordinal, const struct test_case *c, const struct result *result);
 
+/* For the programs: ends with status 2 and one line that says why. */
+_Noreturn void refuse(const char *program, const char *why, const char *what);
+/* A decimal number from an argument, refused if it is above `most`. */
+unsigned long number_of(const char *program, const char *text, unsigned long most);
+
 #endif

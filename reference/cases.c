@@ -2,11 +2,12 @@
 #include "cases.h"
 
 #include <stdio.h>
-#include <stdlib.h>
 #include <string.h>
 
-#include "casefile.h"
+#include "generator.h"
 #include "wrong.h"
+
+static const char program[] = "cases";
 
 static struct {
     FILE *cases, *expected;
@@ -22,6 +23,16 @@ void emit(const struct test_case *c)
     case_run(c, &result);
     ref_wrong = W_NONE;
     case_print(to.expected, ++to.count, c, &result);
+}
+
+static void random_cases(const char *seed, unsigned long count)
+{
+    struct test_case c;
+    struct source g = source_of(seed);
+    for (unsigned long i = 0; i < count; i++) {
+        random_case(&c, &g);
+        emit(&c);
+    }
 }
 
 static void answer(void)
@@ -41,50 +52,34 @@ static void answer(void)
     printf("end %lu\n", count);
 }
 
-static void usage(FILE *file)
+static void usage(void)
 {
     fputs("usage: cases SEED COUNT CASES EXPECTED [--wrong N]   COUNT random cases, determined by SEED\n"
           "       cases --committed CASES EXPECTED [--wrong N]  the fixed set that a repository keeps\n"
           "       cases --answer                                the lines for the case file on standard input\n"
           "Writes the case file to CASES and the lines that answer it to EXPECTED, with --wrong N those of a wrong\n"
           "reading (tells prints their numbers). COUNT is at most 65536.\n",
-          file);
-}
-
-static _Noreturn void refuse(const char *why, const char *what)
-{
-    fprintf(stderr, "cases: %s%s\n", why, what);
-    usage(stderr);
-    exit(2);
-}
-
-static unsigned long number(const char *text, unsigned long most)
-{
-    char *end;
-    unsigned long n = strtoul(text, &end, 10);
-    if (text[0] < '0' || text[0] > '9' || *end != '\0' || n > most)
-        refuse("not a number in range: ", text);
-    return n;
+          stdout);
 }
 
 static FILE *create(const char *path)
 {
     FILE *file = fopen(path, "wb");
     if (file == NULL)
-        refuse("cannot write ", path);
+        refuse(program, "cannot write ", path);
     return file;
 }
 
 static void close_file(FILE *file, const char *path)
 {
     if (ferror(file) || fclose(file) != 0)
-        refuse("cannot write ", path);
+        refuse(program, "cannot write ", path);
 }
 
 int main(int argc, char **argv)
 {
     if (argc == 2 && strcmp(argv[1], "--help") == 0) {
-        usage(stdout);
+        usage();
         return 0;
     }
     if (argc == 2 && strcmp(argv[1], "--answer") == 0) {
@@ -92,13 +87,13 @@ int main(int argc, char **argv)
         return ferror(stdin) || ferror(stdout);
     }
     if (argc >= 4 && strcmp(argv[argc - 2], "--wrong") == 0) {
-        to.reading = (int)number(argv[argc - 1], W_COUNT - 1);
+        to.reading = (int)number_of(program, argv[argc - 1], W_COUNT - 1);
         argc -= 2;
     }
     bool fixed = argc == 4 && strcmp(argv[1], "--committed") == 0;
     if (!fixed && argc != 5)
-        refuse("wrong arguments", "");
-    unsigned long count = fixed ? 0 : number(argv[2], CASES_MAX);
+        refuse(program, "wrong arguments; see --help", "");
+    unsigned long count = fixed ? 0 : number_of(program, argv[2], CASES_MAX);
     to.cases = create(argv[argc - 2]);
     to.expected = create(argv[argc - 1]);
     if (fixed)

@@ -1,4 +1,4 @@
-/* The two makers of case files. */
+/* The maker of the fixed case set, and where cases go. */
 #ifndef REF_CASES_H
 #define REF_CASES_H
 
@@ -8,6 +8,5 @@
 void emit(const struct test_case *c);
 
 void committed(void);
-void random_cases(const char *seed, unsigned long count);
 
 #endif

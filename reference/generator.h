@@ -63,6 +63,10 @@ void opening_case(struct test_case *c, struct source *g, const struct level *v, 
 /* An ordinary good case of an entry that takes a level. */
 void ordinary_case(struct test_case *c, struct source *g, uint32_t entry, const struct level *v);
 
+/* A random case, damaged or not, of any entry or of the one given. */
+void random_case(struct test_case *c, struct source *g);
+void random_case_of(struct test_case *c, struct source *g, uint32_t entry);
+
 /* Damage that is refused with 2: a buffer's wrong length; inputs are numbered first, then outputs. */
 enum bad_length { EMPTY, ONE_LESS, ONE_MORE, OTHER_LEVEL, BAD_LENGTHS };
 unsigned case_buffers(const struct test_case *c);

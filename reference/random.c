@@ -1,6 +1,5 @@
 /* Random cases: every entry at both levels, a third of them open to damage in one way or more.
  * No expression draws twice from the source, so that every compiler makes the same cases. */
-#include "cases.h"
 #include "generator.h"
 
 /* Round a multiple of the rate, up to four blocks; one in four anywhere. */
@@ -112,9 +111,8 @@ static void random_damage(struct test_case *c, struct source *g)
         c->level = source_below(g, 2) == 0 ? source_below(g, 600) : source_below(g, UINT32_MAX);
 }
 
-static void random_case(struct test_case *c, struct source *g)
+void random_case_of(struct test_case *c, struct source *g, uint32_t entry)
 {
-    uint32_t entry = 1 + source_below(g, ENTRIES - 1);
     const struct level *v = level_of(source_below(g, 3) == 0 ? 3 : 1);
     switch (entry) {
     case SHAKE256:
@@ -131,12 +129,7 @@ static void random_case(struct test_case *c, struct source *g)
         random_damage(c, g);
 }
 
-void random_cases(const char *seed, unsigned long count)
+void random_case(struct test_case *c, struct source *g)
 {
-    struct test_case c;
-    struct source g = source_of(seed);
-    for (unsigned long i = 0; i < count; i++) {
-        random_case(&c, &g);
-        emit(&c);
-    }
+    random_case_of(c, g, 1 + source_below(g, ENTRIES - 1));
 }

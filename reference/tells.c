@@ -21,23 +21,18 @@ struct line {
     struct result right;
 };
 
+static const char program[] = "tells";
+
 static struct line *lines;
 static unsigned long count;
 
-static void usage(FILE *file)
+static void usage(void)
 {
     fputs("usage: tells CASES                              a table: the first case that tells each wrong reading\n"
           "       tells --search LEVEL KIND WEIGHT FROM TO  the wrong readings that each numbered decoder case tells\n"
           "KIND: 0 random error, 1 and a stray bit, 2 under a key of close positions, 3 at the key's own positions.\n"
           "The first fails unless each reading is told at both levels, or by a case that has no good level.\n",
-          file);
-}
-
-static _Noreturn void refuse(const char *why, const char *what)
-{
-    fprintf(stderr, "tells: %s%s\n", why, what);
-    usage(stderr);
-    exit(2);
+          stdout);
 }
 
 static void run_right(struct line *line)
@@ -59,19 +54,19 @@ static void load(const char *path)
 {
     FILE *file = fopen(path, "rb");
     if (file == NULL)
-        refuse("cannot read ", path);
+        refuse(program, "cannot read ", path);
     enum reading reading = CASE_READ;
     while (reading == CASE_READ) {
         struct line *more = realloc(lines, (count + 1) * sizeof *lines);
         if (more == NULL)
-            refuse("out of memory for ", path);
+            refuse(program, "out of memory for ", path);
         lines = more;
         reading = case_read(file, &lines[count].test);
         if (reading == CASE_READ)
             run_right(&lines[count++]);
     }
     if (reading == CASE_BAD)
-        refuse("a bad case in ", path);
+        refuse(program, "a bad case in ", path);
     fclose(file);
 }
 
@@ -119,11 +114,7 @@ static bool table(void)
 
 static uint32_t number(const char *text)
 {
-    char *end;
-    unsigned long n = strtoul(text, &end, 10);
-    if (text[0] < '0' || text[0] > '9' || *end != '\0' || n > UINT32_MAX)
-        refuse("not a number: ", text);
-    return (uint32_t)n;
+    return (uint32_t)number_of(program, text, UINT32_MAX);
 }
 
 static void search(char **argv)
@@ -132,7 +123,7 @@ static void search(char **argv)
     const struct level *v = level_of(number(argv[0]));
     uint32_t kind = number(argv[1]), weight = number(argv[2]), to = number(argv[4]);
     if (v == NULL || kind >= ERROR_KINDS || weight > (kind == OWN_PATTERN ? v->d : v->r))
-        refuse("no such level, kind or weight", "");
+        refuse(program, "no such level, kind or weight", "");
     for (uint32_t n = number(argv[3]); n < to; n++) {
         case_decode_numbered(&line.test, v, (enum error_kind)kind, weight, n);
         run_right(&line);
@@ -147,7 +138,7 @@ static void search(char **argv)
 int main(int argc, char **argv)
 {
     if (argc == 2 && strcmp(argv[1], "--help") == 0) {
-        usage(stdout);
+        usage();
         return 0;
     }
     if (argc == 7 && strcmp(argv[1], "--search") == 0) {
@@ -155,7 +146,7 @@ int main(int argc, char **argv)
         return 0;
     }
     if (argc != 2 || argv[1][0] == '-')
-        refuse("wrong arguments", "");
+        refuse(program, "wrong arguments; see --help", "");
     load(argv[1]);
     return table() ? 0 : 1;
 }

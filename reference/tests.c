@@ -10,6 +10,8 @@
 #include "ring.h"
 #include "scheme.h"
 
+static const char program[] = "tests";
+
 static unsigned long checks, failures;
 
 static void check(bool holds, const char *what)
@@ -118,20 +120,16 @@ static void known_digests(void)
 static FILE *open_file(const char *path)
 {
     FILE *file = fopen(path, "rb");
-    if (file == NULL) {
-        fprintf(stderr, "tests: cannot read %s\n", path);
-        exit(2);
-    }
+    if (file == NULL)
+        refuse(program, "cannot read ", path);
     return file;
 }
 
 static uint8_t *room(size_t n)
 {
     uint8_t *bytes = malloc(n + 1);
-    if (bytes == NULL) {
-        fputs("tests: out of memory\n", stderr);
-        exit(2);
-    }
+    if (bytes == NULL)
+        refuse(program, "out of memory", "");
     return bytes;
 }
 
@@ -267,10 +265,8 @@ int main(int argc, char **argv)
              "Runs the examples and the consistency tests, and the published hash vectors of the two files if given.");
         return 0;
     }
-    if (argc != 1 && argc != 3) {
-        fputs("tests: two files or none are wanted; see --help\n", stderr);
-        return 2;
-    }
+    if (argc != 1 && argc != 3)
+        refuse(program, "two files or none are wanted; see --help", "");
     proved_examples();
     known_digests();
     run_examples();
