@@ -1,0 +1,135 @@
+/* The library and the second program in one process, on random and on damaged input. */
+#include <stdbool.h>
+#include <stdio.h>
+#include <string.h>
+#include <sys/random.h>
+
+#include "../reference/casefile.h"
+#include "../reference/generator.h"
+#include "doors.h"
+
+enum { GUARD = 64, GUARD_BYTE = 0x3c, OLD_BYTE = 0xa5, MOST = 1000000 };
+
+static const char program[] = "compare";
+
+/* A buffer with guard bytes before and after it. */
+struct lent {
+    size_t n;
+    uint8_t room[GUARD + BUFFER_MAX + GUARD];
+};
+
+struct outcome {
+    uint32_t answer;
+    struct lent in[2], out[2];
+};
+
+static uint8_t *bytes_of(struct lent *lent)
+{
+    return lent->room + GUARD;
+}
+
+static void lend(struct lent *lent, size_t n)
+{
+    lent->n = n;
+    memset(lent->room, GUARD_BYTE, sizeof lent->room);
+    memset(bytes_of(lent), OLD_BYTE, n);
+}
+
+static bool guards_stand(const struct lent *lent)
+{
+    for (size_t i = 0; i < sizeof lent->room; i++)
+        if ((i < GUARD || i >= GUARD + lent->n) && lent->room[i] != GUARD_BYTE)
+            return false;
+    return true;
+}
+
+static uint32_t call(const struct doors *doors, const struct test_case *c, struct outcome *o)
+{
+    const uint8_t *a = bytes_of(&o->in[0]), *b = bytes_of(&o->in[1]);
+    uint8_t *x = bytes_of(&o->out[0]), *y = bytes_of(&o->out[1]);
+    size_t an = c->in[0].n, bn = c->in[1].n, xn = c->out[0], yn = c->out[1];
+    switch (c->entry) {
+    case MAKE_KEY: return doors->make_key(c->level, a, an, x, xn, y, yn);
+    case WRAP: return doors->wrap(c->level, a, an, b, bn, x, xn, y, yn);
+    default: return doors->open(c->level, a, an, b, bn, x, xn);
+    }
+}
+
+static void run(const struct doors *doors, const struct test_case *c, struct outcome *o)
+{
+    for (int i = 0; i < 2; i++) {
+        lend(&o->in[i], c->in[i].n);
+        memcpy(bytes_of(&o->in[i]), c->in[i].bytes, c->in[i].n);
+        lend(&o->out[i], c->out[i]);
+    }
+    o->answer = call(doors, c, o);
+}
+
+/* What the two outcomes differ in, or what a call has no right to; NULL where all is well. */
+static const char *difference(const struct test_case *c, struct outcome *got, struct outcome *wanted)
+{
+    if (got->answer != wanted->answer)
+        return "another answer";
+    for (int i = 0; i < 2; i++) {
+        if (memcmp(bytes_of(&got->out[i]), bytes_of(&wanted->out[i]), c->out[i]) != 0)
+            return "another output";
+        if (memcmp(bytes_of(&got->in[i]), c->in[i].bytes, c->in[i].n) != 0)
+            return "an input was changed";
+        if (!guards_stand(&got->in[i]) || !guards_stand(&got->out[i]))
+            return "a byte outside a buffer was changed";
+    }
+    return NULL;
+}
+
+/* Calls made and calls refused, by entry. */
+struct counts {
+    unsigned long made[ENTRIES], refused;
+};
+
+static bool compare(struct source *g, unsigned long count, struct counts *counts)
+{
+    static struct test_case c;
+    static struct outcome got, wanted;
+    for (unsigned long i = 1; i <= count; i++) {
+        random_case_of(&c, g, MAKE_KEY + source_below(g, 3));
+        run(&library, &c, &got);
+        run(&reference, &c, &wanted);
+        const char *what = difference(&c, &got, &wanted);
+        if (what != NULL) {
+            printf("call %lu (entry %lu, level %lu): %s; answers %lu and, by the reference, %lu\n", i,
+                   (unsigned long)c.entry, (unsigned long)c.level, what, (unsigned long)got.answer,
+                   (unsigned long)wanted.answer);
+            return false;
+        }
+        counts->made[c.entry]++;
+        counts->refused += got.answer != 0;
+    }
+    return true;
+}
+
+static void fresh_seed(char *text, size_t n)
+{
+    uint8_t bytes[8];
+    if (getrandom(bytes, sizeof bytes, 0) != (long)sizeof bytes)
+        refuse(program, "no random bytes: give a SEED", "");
+    for (size_t i = 0; i < sizeof bytes; i++)
+        snprintf(text + 2 * i, n - 2 * i, "%02x", bytes[i]);
+}
+
+int main(int argc, char **argv)
+{
+    char fresh[17];
+    struct counts counts = {0};
+    if (argc != 2 && argc != 3)
+        refuse(program, "wanted: COUNT, the number of calls, and perhaps the SEED of an earlier run", "");
+    unsigned long count = number_of(program, argv[1], MOST);
+    fresh_seed(fresh, sizeof fresh);
+    const char *seed = argc == 3 ? argv[2] : fresh;
+    printf("seed %s\n", seed);
+    struct source g = source_of(seed);
+    if (!compare(&g, count, &counts))
+        return 1;
+    printf("%lu agree: %lu key makings, %lu wrappings, %lu openings; %lu of them refusals\n", count,
+           counts.made[MAKE_KEY], counts.made[WRAP], counts.made[OPEN], counts.refused);
+    return 0;
+}

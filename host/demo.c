@@ -1,0 +1,145 @@
+/* What the parents see: two karts, an exchange, a code that is scanned badly, a ciphertext that is damaged on its way. */
+#include <stdio.h>
+#include <stdlib.h>
+#include <string.h>
+#include <sys/random.h>
+
+#include "bike.h"
+
+enum {
+    LEVEL = BIKE_LEVEL_1,
+    PUBLIC = BIKE_LEVEL_1_PUBLIC_KEY_BYTES,
+    PRIVATE = BIKE_LEVEL_1_PRIVATE_KEY_BYTES,
+    CIPHERTEXT = BIKE_LEVEL_1_CIPHERTEXT_BYTES,
+    SESSION = BIKE_SESSION_KEY_BYTES
+};
+
+struct controller {
+    const char *name;
+    uint8_t public_key[PUBLIC]; /* shown as a code */
+    uint8_t private_key[PRIVATE];
+    uint8_t session_key[SESSION];
+};
+
+struct app {
+    uint8_t ciphertext[CIPHERTEXT];
+    uint8_t session_key[SESSION];
+};
+
+static const char *in_words(uint32_t answer)
+{
+    static const char *const words[] = {
+        [BIKE_DONE] = "done",
+        [BIKE_NO_LEVEL] = "there is no such level",
+        [BIKE_BAD_LENGTH] = "a buffer has a wrong length",
+        [BIKE_BAD_PAD] = "a bit is set that must be 0",
+        [BIKE_BAD_POSITION] = "the private key is no key",
+        [BIKE_NO_INVERSE] = "this seed gives no key",
+    };
+    return words[answer];
+}
+
+static void say_answer(const char *who, const char *what, uint32_t answer)
+{
+    printf("  %-18s %-34s answer %lu: %s\n", who, what, (unsigned long)answer, in_words(answer));
+}
+
+static void say_key(const char *who, const uint8_t *key)
+{
+    printf("  %-18s session key ", who);
+    for (int i = 0; i < SESSION; i++)
+        printf("%02x", key[i]);
+    printf("\n");
+}
+
+/* The story goes on only if what was said before is true. */
+static void must(int holds, const char *what)
+{
+    if (holds)
+        return;
+    fprintf(stderr, "demo: this must not happen: %s\n", what);
+    exit(1);
+}
+
+static void random_bytes(uint8_t *bytes, size_t n)
+{
+    must(getrandom(bytes, n, 0) == (long)n, "no random bytes");
+}
+
+static void make(struct controller *kart)
+{
+    uint8_t seed[BIKE_SEED_BYTES];
+    random_bytes(seed, sizeof seed);
+    uint32_t answer = bike_make_key(LEVEL, seed, sizeof seed, kart->public_key, PUBLIC, kart->private_key, PRIVATE);
+    say_answer(kart->name, "makes its key pair", answer);
+    must(answer == BIKE_DONE, "no key");
+}
+
+static uint32_t wrap(struct app *app, const uint8_t *scanned, const char *what)
+{
+    uint8_t message[BIKE_MESSAGE_BYTES];
+    random_bytes(message, sizeof message);
+    uint32_t answer = bike_wrap(LEVEL, scanned, PUBLIC, message, sizeof message, app->ciphertext, CIPHERTEXT,
+                                app->session_key, SESSION);
+    say_answer("phone", what, answer);
+    say_key("phone", app->session_key);
+    return answer;
+}
+
+static void open(struct controller *kart, const struct app *app, const char *what)
+{
+    uint32_t answer = bike_open(LEVEL, kart->private_key, PRIVATE, app->ciphertext, CIPHERTEXT,
+                                kart->session_key, SESSION);
+    say_answer(kart->name, what, answer);
+    say_key(kart->name, kart->session_key);
+    must(answer == BIKE_DONE, "not opened");
+}
+
+static void exchange(struct app *app, struct controller *kart)
+{
+    printf("\nThe phone scans the code of %s.\n", kart->name);
+    must(wrap(app, kart->public_key, "wraps a fresh message") == BIKE_DONE, "not wrapped");
+    open(kart, app, "opens the ciphertext");
+    must(memcmp(app->session_key, kart->session_key, SESSION) == 0, "two keys");
+    printf("  Both have the same key.\n");
+}
+
+static void bad_scan(struct app *app, const struct controller *kart)
+{
+    static const uint8_t zeros[SESSION];
+    uint8_t scanned[PUBLIC];
+    printf("\nThe phone scans the code of %s, badly: its last byte is read as ff.\n", kart->name);
+    memcpy(scanned, kart->public_key, PUBLIC);
+    scanned[PUBLIC - 1] = 0xff;
+    say_key("phone, before", app->session_key);
+    must(wrap(app, scanned, "wraps a fresh message") == BIKE_BAD_PAD, "not refused");
+    must(memcmp(app->session_key, zeros, SESSION) == 0, "an old key is left");
+    printf("  Refused, and nothing of the other kart's key is left.\n");
+}
+
+static void damaged(struct app *app, struct controller *kart)
+{
+    printf("\nThe phone scans the code of %s, and one bit of the ciphertext is turned on the way.\n", kart->name);
+    must(wrap(app, kart->public_key, "wraps a fresh message") == BIKE_DONE, "not wrapped");
+    app->ciphertext[100] ^= 1;
+    open(kart, app, "opens what it got");
+    must(memcmp(app->session_key, kart->session_key, SESSION) != 0, "one key");
+    printf("  No error, but another key: a map under the phone's key is worth nothing here.\n");
+}
+
+int main(int argc, char **argv)
+{
+    static struct controller blue = {.name = "the blue kart"}, red = {.name = "the red kart"};
+    static struct app app;
+    if (argc != 1) {
+        fprintf(stderr, "demo: takes no arguments, and was given %s\n", argv[1]);
+        return 2;
+    }
+    printf("\nTwo controllers make their keys.\n");
+    make(&blue);
+    make(&red);
+    exchange(&app, &blue);
+    bad_scan(&app, &red);
+    damaged(&app, &red);
+    return 0;
+}

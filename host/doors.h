@@ -1,0 +1,19 @@
+/* The three doors, of the library and of the second program, under one set of names. */
+#ifndef HOST_DOORS_H
+#define HOST_DOORS_H
+
+#include <stddef.h>
+#include <stdint.h>
+
+struct doors {
+    uint32_t (*make_key)(uint32_t level, const uint8_t *seed, size_t seedn,
+                         uint8_t *pub, size_t pubn, uint8_t *priv, size_t privn);
+    uint32_t (*wrap)(uint32_t level, const uint8_t *pub, size_t pubn, const uint8_t *m, size_t mn,
+                     uint8_t *c, size_t cn, uint8_t *k, size_t kn);
+    uint32_t (*open)(uint32_t level, const uint8_t *priv, size_t privn, const uint8_t *c, size_t cn,
+                     uint8_t *k, size_t kn);
+};
+
+extern const struct doors library, reference;
+
+#endif

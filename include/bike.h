@@ -1,0 +1,71 @@
+/* BIKE at Levels 1 and 3, as the archive libexchange.a has it: make a key pair, wrap a message to a public key, open a ciphertext.
+ *
+ * Buffers. The caller owns every buffer, and the library keeps none: it holds no state, allocates nothing and may be called from
+ * several threads at once. A buffer is a pointer and its length in bytes, and must have exactly the length that is named below.
+ * No pointer may be null, and the buffers of one call must not overlap; nothing checks that. Inputs never change.
+ *
+ * Answers. A call gives one number. After BIKE_DONE every output holds its value. Any other number is a refusal, and then every
+ * byte of every output is zero, at the length that was lent, right or wrong: no earlier content is left. The smallest number that
+ * applies is given; after BIKE_NO_LEVEL nothing else is looked at.
+ *
+ * Secrets. Seeds and messages come from the caller's random source: a seed for each key pair, a message for each wrapping, none
+ * of them twice. Seed, private key, message and session key are secret; public key and ciphertext are not.
+ *
+ * Stack. A call takes less than 512 kB at either level (host/run bench measures it). */
+#ifndef BIKE_H
+#define BIKE_H
+
+#include <stddef.h>
+#include <stdint.h>
+
+#ifdef __cplusplus
+extern "C" {
+#endif
+
+enum {
+    BIKE_SEED_BYTES = 64,
+    BIKE_MESSAGE_BYTES = 32,
+    BIKE_SESSION_KEY_BYTES = 32,
+
+    BIKE_LEVEL_1 = 1,
+    BIKE_LEVEL_1_PUBLIC_KEY_BYTES = 1541,
+    BIKE_LEVEL_1_PRIVATE_KEY_BYTES = 316,
+    BIKE_LEVEL_1_CIPHERTEXT_BYTES = 1573,
+
+    BIKE_LEVEL_3 = 3,
+    BIKE_LEVEL_3_PUBLIC_KEY_BYTES = 3083,
+    BIKE_LEVEL_3_PRIVATE_KEY_BYTES = 444,
+    BIKE_LEVEL_3_CIPHERTEXT_BYTES = 3115
+};
+
+enum {
+    BIKE_DONE = 0,
+    BIKE_NO_LEVEL = 1,     /* the level is neither 1 nor 3 */
+    BIKE_BAD_LENGTH = 2,   /* a buffer, input or output, has a wrong length */
+    BIKE_BAD_PAD = 3,      /* the public key or the ciphertext has one of the 5 upper bits of byte 1540 (3082) set */
+    BIKE_BAD_POSITION = 4, /* a position in the private key is too large, or not larger than the one before it */
+    BIKE_NO_INVERSE = 5    /* the seed gives no key pair: take another */
+};
+
+/* Makes the key pair that the seed determines. Gives 0, 1, 2 or 5. */
+uint32_t bike_make_key(uint32_t level, const uint8_t *seed, size_t seed_bytes,
+                       uint8_t *public_key, size_t public_key_bytes,
+                       uint8_t *private_key, size_t private_key_bytes);
+
+/* Wraps a message to a public key: the ciphertext for its owner, and the session key for this side. Gives 0, 1, 2 or 3. */
+uint32_t bike_wrap(uint32_t level, const uint8_t *public_key, size_t public_key_bytes,
+                   const uint8_t *message, size_t message_bytes,
+                   uint8_t *ciphertext, size_t ciphertext_bytes,
+                   uint8_t *session_key, size_t session_key_bytes);
+
+/* Opens a ciphertext. Gives 0, 1, 2, 3 or 4. A ciphertext that wrapping did not make, or that was damaged, is no refusal: the
+ * answer is 0, and the session key is one that nobody else has. That both sides have the same key shows when they use it. */
+uint32_t bike_open(uint32_t level, const uint8_t *private_key, size_t private_key_bytes,
+                   const uint8_t *ciphertext, size_t ciphertext_bytes,
+                   uint8_t *session_key, size_t session_key_bytes);
+
+#ifdef __cplusplus
+}
+#endif
+
+#endif
