@@ -131,7 +131,7 @@ static const struct {
     {3, PLAIN, 222, 3},     {3, CLOSE_KEY, 30, 15},  {3, OWN_PATTERN, 52, 18},   {3, OWN_PATTERN, 52, 22},
 };
 
-static void committed_decoding(struct source *g, const struct level *v)
+static void committed_decoding(const struct level *v)
 {
     struct test_case c;
     for (size_t i = 0; i < sizeof telling / sizeof telling[0]; i++) {
@@ -140,12 +140,31 @@ static void committed_decoding(struct source *g, const struct level *v)
             emit(&c);
         }
     }
+}
+
+static void emit_position(struct test_case c, int half, uint32_t index, uint32_t position)
+{
+    set_position(&c, half, index, position);
+    emit(&c);
+}
+
+/* The examples that document 01 wants run, by decoding. */
+static void committed_examples(struct source *g, const struct level *v)
+{
+    struct test_case c;
     struct key key = random_key(g, v);
     struct poly zero = poly_zero(), ones = all_ones(v);
-    case_decode(&c, v, &key, &zero);
+    uint32_t last = v->d - 1;
+    key.h[1][last] = v->r - 1;
+    case_decode(&c, v, &key, &ones); /* last byte 7 is accepted; T is above d, so nothing flips: 6 */
     emit(&c);
-    case_decode(&c, v, &key, &ones); /* T is above d: nothing flips */
+    case_decode(&c, v, &key, &zero); /* position r - 1 is accepted, and syndrome 0 decodes to error 0 */
     emit(&c);
+    emit_position(c, 1, last, v->r);                /* 4 */
+    emit_position(c, 0, 1, get_position(&c, 0, 0)); /* equal neighbours: 4 */
+    damage_pad(&c, 1, 1);                           /* last byte 8: 3 */
+    emit(&c);
+    emit_position(c, 1, last, v->r);                /* bad pad and bad key at once: 3 */
 }
 
 static void committed_exchange(struct source *g, const struct level *v)
@@ -172,7 +191,8 @@ static void committed_exchange(struct source *g, const struct level *v)
     }
 }
 
-/* Each buffer of each entry gets two of the wrong lengths, taking turns; at Level 3 of two entries, one. */
+/* Each buffer of each entry gets two of the wrong lengths, taking turns; of decoding, whose lines are the longest, one; at Level 3
+ * of two entries, one. */
 static void committed_lengths(struct source *g, const struct level *v)
 {
     struct test_case c;
@@ -182,7 +202,7 @@ static void committed_lengths(struct source *g, const struct level *v)
             continue;
         ordinary_case(&c, g, entry, v);
         for (unsigned buffer = 0; buffer < case_buffers(&c); buffer++)
-            for (unsigned n = 0; n < (in_full(v) ? 2 : 1); n++) {
+            for (unsigned n = 0; n < (in_full(v) && entry != DECODE ? 2 : 1); n++) {
                 ordinary_case(&c, g, entry, v);
                 damage_length(&c, g, buffer, (enum bad_length)(turn++ % BAD_LENGTHS));
                 emit(&c);
@@ -217,15 +237,9 @@ static void committed_pads(struct source *g, const struct level *v)
     emit(&c);
 }
 
-static void emit_position(struct test_case c, int half, uint32_t index, uint32_t position)
-{
-    set_position(&c, half, index, position);
-    emit(&c);
-}
-
 static void committed_positions(struct source *g, const struct level *v)
 {
-    struct test_case open, decode;
+    struct test_case open;
     ordinary_case(&open, g, OPEN, v);
     uint32_t last = v->d - 1;
     emit_position(open, 1, last, v->r - 1); /* good */
@@ -240,9 +254,6 @@ static void committed_positions(struct source *g, const struct level *v)
     emit_position(open, 0, last, 65535);
     memcpy(open.in[0].bytes + 2 * v->d, open.in[0].bytes, 2 * v->d); /* h1 = h0: good */
     emit(&open);
-    ordinary_case(&decode, g, DECODE, v);
-    emit_position(decode, 0, last, v->r - 1); /* good */
-    emit_position(decode, 1, last, v->r);
 }
 
 /* A bad level, a wrong length, a pad bit and a bad position, each where its mark is set. */
@@ -296,7 +307,8 @@ void committed(void)
         const struct level *v = level_of(level);
         committed_ring(&g, v);
         committed_errors(&g, v);
-        committed_decoding(&g, v);
+        committed_decoding(v);
+        committed_examples(&g, v);
         committed_exchange(&g, v);
         committed_lengths(&g, v);
         committed_pads(&g, v);
