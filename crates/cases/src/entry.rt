@@ -11,14 +11,14 @@ use libc::STDOUT_FILENO;
 fn inputs(number: u8) -> u8 {
     match number {
         1 | 2 | 4 | 5 | 7 | 10 => 1,
-        3 | 6 | 8 => 2,
+        3 | 6 | 8 | 9 => 2,
         _ => 0,
     }
 }
 
 fn outputs(number: u8) -> u8 {
     match number {
-        1 | 2 | 3 | 4 => 1,
+        1 | 2 | 3 | 4 | 9 => 1,
         5 | 6 | 7 | 8 => 2,
         _ => 0,
     }
@@ -33,7 +33,8 @@ fn called(number: u8, level: u32, a: &[u8], b: &[u8], out0: &mut [u8], out1: &mu
         5 => exchange::error_of(level, a, out0, out1),
         6 => exchange::decode(level, a, b, out0, out1),
         7 => exchange::make_key(level, a, out0, out1),
-        _ => exchange::wrap(level, a, b, out0, out1),
+        8 => exchange::wrap(level, a, b, out0, out1),
+        _ => exchange::open(level, a, b, out0),
     }
 }
 
