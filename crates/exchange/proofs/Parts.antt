@@ -2,10 +2,10 @@
 use mathlib.Core.Path.{_≡_, ap, ap₂, _∙_}
 use mathlib.Core.List.{List, [], _++_, append-nil}
 use Prim.Native.Nat.{ℕ, _+_, _-_, _≤_}
-use native.Mathlib.Nat.{le-of-eq}
+use native.Mathlib.Nat.{le-of-eq, zero-add}
 use native.Mathlib.Omega.{arith}
 use lib.ListN.{length, take, drop, drop-of-length-le, length-drop, length-take}
-use lib.Seq.{length-take-le, take-all, take-at, drop-at, take-add}
+use lib.Seq.{sets, sets-eq, length-take-le, take-all, take-at, drop-at, take-add}
 use Rattle.ring.specs.Bytes.{byteLength, bytesOf}
 use Rattle.ring.specs.Polynomials.{Poly}
 use Rattle.ring.proofs.Layouts.{bytesOf-length}
@@ -31,3 +31,7 @@ front-room r a xs held = omega (arith, length-take (byteLength r) xs, ap length 
 
 pub front-long : (n : ℕ) {m : ℕ} (xs : List ℕ) → n ≡ m → m ≤ length xs → length (take n xs) ≡ n
 front-long n xs same room = length-take-le n xs (rw same room)
+
+-- what was written to the front of a list stands there
+pub front-set : (list old : List ℕ) {n : ℕ} → length list ≡ n → length list ≤ length old → take n (sets old 0 list) ≡ list
+front-set list old long room = rw (sets-eq list old 0 (rw (zero-add (length list)) room)) (take-at list _ _ long)

@@ -1,16 +1,15 @@
 -- `exponents` lists as many as the half weighs.
 use mathlib.Core.Path.{_≡_, _∙_}
 use Prim.Native.Nat.{_≤_}
-use native.Mathlib.Nat.{zero-add}
 use native.Mathlib.Omega.{arith}
 use lib.ListN.{length}
-use lib.Seq.{take-at, sets-eq}
 use borrow.Author.Needs.{needs}
 use Rattle.hashing.specs.Lists.{bits}
 use Rattle.ring.specs.Levels.{levelOf}
 use Rattle.ring.specs.Polynomials.{rising}
 use Rattle.ring.proofs.Levels.{r-small, sizes}
 use Rattle.exchange.proofs.Making.{length-rising}
+use Rattle.exchange.proofs.Parts.{front-set}
 use Rattle.exchange.proofs.keys.exponents.Statement.{statement}
 use Rattle.exchange.proofs.keys.exponents.Tie as tie
 
@@ -31,11 +30,8 @@ rising-requires c κs =
 returns : tie.Need-returns
 returns c =
     let made = c .before .before .before .before in
-    let list = rising (levelOf (made .before .args .level) .r) (bits 64 (made .before .args .h)) in
-    let filled =
-    (rw (c .before .before .before .block .ensures) at (c .before .rising .ensures .1))
-    ∙ sets-eq list (made .no-exponents .result) 0 (rw (zero-add (length list)) (room made)) in
-    rw filled (take-at list _ _ (count (made .before)))
+    let filled = rw (c .before .before .before .block .ensures) at (c .before .rising .ensures .1) in
+    rw filled (front-set _ _ (count (made .before)) (room made))
 
 pub exponents-spec : {M : Type 1} → statement M
 exponents-spec =

@@ -2,10 +2,8 @@
 use mathlib.Core.Path.{_≡_, sym, ap, _∙_}
 use mathlib.Core.List.{List}
 use Prim.Native.Nat.{ℕ, _≤_}
-use native.Mathlib.Nat.{zero-add}
 use native.Mathlib.Omega.{arith}
 use lib.ListN.{length, take}
-use lib.Seq.{take-at, sets-eq}
 use borrow.Author.Needs.{needs}
 use Rattle.hashing.specs.Lists.{bits}
 use Rattle.ring.specs.Levels.{levelOf}
@@ -14,6 +12,7 @@ use Rattle.ring.proofs.Levels.{r-small, sizes}
 use Rattle.ring.proofs.Ring.{mul-comm}
 use Rattle.decoder.proofs.Listing
 use Rattle.exchange.proofs.Making.{length-rising, support-rising, rising-good}
+use Rattle.exchange.proofs.Parts.{front-set}
 use Rattle.exchange.proofs.wrapping.error_times.Statement.{statement}
 use Rattle.exchange.proofs.wrapping.error_times.Tie as tie
 
@@ -36,12 +35,8 @@ count-is c = sym (rw (c .before .before .before .block .ensures) at (c .rising .
 
 listed-is : (c : tie.After-rising) → take (c .rising .result) (c .rising .last .1 .1 .0) ≡ exponentsOf (c .before .before .before .before)
 listed-is c =
-    let list = exponentsOf (c .before .before .before .before) in
-    let made = c .before .before in
-    let filled =
-    (rw (c .before .before .before .block .ensures) at (c .rising .ensures .1))
-    ∙ sets-eq list (made .no-exponents .result) 0 (rw (zero-add (length list)) (room made)) in
-    rw filled (take-at list _ _ (count-is c))
+    let filled = rw (c .before .before .before .block .ensures) at (c .rising .ensures .1) in
+    rw filled (front-set _ _ (count-is c) (room (c .before .before)))
 
 long : (c : tie.After-rising) → c .rising .result ≤ length (c .rising .last .1 .1 .0)
 long c = omega (arith, count-is c, room (c .before .before), c .rising .kept .1 .1 .0)
