@@ -47,10 +47,7 @@ module _ (rate : ℕ) (pos : 0 < rate) where
       let enough : n ≤ blocks * rate = omega (arith, div-add-mod' (n + rate - 1) rate, mod-lt (n + rate - 1) pos) in
       ap (take n) (squeezed-at S blocks) ∙ take-tab n (blocks * rate) (byteAt rate S) enough
 
-  -- parts of an output, for the callers too: its length, its first bytes, those that follow the first n, and that they are bytes
-  pub length-sponge : (suffix : ℕ) (M : List ℕ) (n : ℕ) → length (sponge rate suffix M n) ≡ n
-  length-sponge suffix M n = rw (sponge-at suffix M n) (length-tab n (byteAt rate (soaked rate suffix M)))
-
+  -- parts of an output, for the callers too: its first bytes, those that follow the first n, and that they are bytes
   pub sponge-first : (suffix : ℕ) (M : List ℕ) (n m : ℕ) → n ≤ m → take n (sponge rate suffix M m) ≡ sponge rate suffix M n
   sponge-first suffix M n m h = rw (sponge-at suffix M m, sponge-at suffix M n) (take-tab n m (byteAt rate (soaked rate suffix M)) h)
 

@@ -88,15 +88,6 @@ module _ (y : List ℕ) (r m : ℕ) (mask : m ≡ 2 ^ (r % 64)) (room : r / 64 <
           last k (omega arith)
           ∙ bit-above (getD y (r / 64) 0 % 2 ^ (r % 64)) (r % 64) (k % 64) (mod-lt (getD y (r / 64) 0) (pow-pos (r % 64))) (omega arith)
 
-  pub cut-same : (k : ℕ) → k < r → bits 64 (set y (r / 64) (getD y (r / 64) 0 % m)) k ≡ bits 64 y k
-  cut-same k h = go (decLt (k / 64) (r / 64))
-    where
-      go : Dec (k / 64 < r / 64) → bits 64 (set y (r / 64) (getD y (r / 64) 0 % m)) k ≡ bits 64 y k
-      go (yes below) = other k (λ e. omega arith)
-      go (no at) =
-          last k (omega arith) ∙ bit-mod (getD y (r / 64) 0) (r % 64) (k % 64) (omega arith)
-          ∙ sym (bits-at 64 y (r / 64) (k % 64) (omega arith) (omega arith))
-
 -- the ones of word i, beside those of the words before it
 pub ones-more : (a : List ℕ) (i : ℕ) → getD a i 0 < 2 ^ 64
     → weight (64 * i) (bits 64 a) + ones (getD a i 0) ≡ weight (64 * (i + 1)) (bits 64 a)
