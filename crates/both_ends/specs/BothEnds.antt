@@ -8,8 +8,8 @@ use Rattle.hashing.specs.Answers.{Outcome, settle}
 use Rattle.ring.specs.Bytes.{bytesOf}
 use Rattle.ring.specs.Levels.{Level, known, levelOf, messageBytes}
 use Rattle.ring.specs.Polynomials.{hasInverse}
-use Rattle.decoder.specs.Decoder.{decoded, failed}
-use Rattle.decoder.specs.PrivateKey.{secret}
+use Rattle.exchange.specs.decoder.Decoder.{decoded, failed}
+use Rattle.exchange.specs.decoder.PrivateKey.{secret}
 use Rattle.exchange.specs.Fits.{Fits}
 use Rattle.exchange.specs.Opening.{syndromeOf, opened}
 use Rattle.exchange.specs.Promises.{seedBytes, differs}

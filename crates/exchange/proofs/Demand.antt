@@ -26,10 +26,10 @@ use Rattle.ring.proofs.Ring
 use Rattle.ring.proofs.Bools.{both-true}
 use Rattle.exchange.proofs.Errors.{error-in0, error-in1}
 use Rattle.exchange.proofs.Streams.{below-append, below-take, below-drop, below-tab}
-use Rattle.decoder.proofs.Laws.{InPair, pair-path, decoded-in, residual-in, found-of, found-none}
-use Rattle.decoder.specs.Decoder.{nothing, residual, decoded, failed, found, Pair}
+use Rattle.exchange.proofs.decoder.Laws.{InPair, pair-path, decoded-in, residual-in, found-of, found-none}
+use Rattle.exchange.specs.decoder.Decoder.{nothing, residual, decoded, failed, found, Pair}
 use Rattle.exchange.specs.Fits.{Bytes, WellFormed, Fits}
-use Rattle.decoder.specs.PrivateKey.{secret, sigma}
+use Rattle.exchange.specs.decoder.PrivateKey.{secret, sigma}
 use Rattle.exchange.specs.Opening.{syndromeOf, messageOf, sameError, keyFor, opened}
 use Rattle.exchange.specs.Scheme.{hashH, hashL, hashK, xorBytes, wrapped}
 

@@ -16,7 +16,7 @@ use Rattle.ring.specs.Polynomials.{Poly, InRing, rising, weight, bit, listed, s
 use Rattle.ring.proofs.Bools.{both-true}
 use Rattle.ring.specs.Bytes.{littleEndian, numbers}
 use Rattle.ring.specs.Levels.{Level}
-use Rattle.decoder.specs.PrivateKey.{positions0, positions1, sigma, secret, risingFrom}
+use Rattle.exchange.specs.decoder.PrivateKey.{positions0, positions1, sigma, secret, risingFrom}
 use Rattle.exchange.specs.Scheme.{twoBytes, privateKey}
 
 -- two bytes read back

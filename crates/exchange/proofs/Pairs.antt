@@ -25,8 +25,8 @@ use Rattle.exchange.proofs.Errors.{error-weight}
 use Rattle.exchange.proofs.keys.Laws.{h0-half, h1-half}
 use Rattle.exchange.proofs.wrapping.Laws.{pad-clear}
 use Rattle.exchange.proofs.Making.{positions0-back, positions1-back, sigma-back, secret-back, rising-good}
-use Rattle.decoder.specs.Decoder.{nothing, Pair}
-use Rattle.decoder.specs.PrivateKey.{secret, goodKey, sigma}
+use Rattle.exchange.specs.decoder.Decoder.{nothing, Pair}
+use Rattle.exchange.specs.decoder.PrivateKey.{secret, goodKey, sigma}
 use Rattle.exchange.specs.Opening.{sameError, opened}
 use Rattle.exchange.specs.Fits.{FromKeyMaking, WellFormed, Fits}
 use Rattle.exchange.specs.Promises.{make-key-says, wrap-says, open-says, differs, seedBytes}

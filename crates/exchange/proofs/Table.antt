@@ -4,7 +4,7 @@ use lib.Dec.{lit<}
 use Rattle.ring.proofs.Examples.{P1, P2, P3, P4}
 use Rattle.ring.specs.Levels.{level1, level3}
 use Rattle.ring.specs.Polynomials.{terms, power, add, weight, listed}
-use Rattle.decoder.specs.Decoder.{counter, threshold}
+use Rattle.exchange.specs.decoder.Decoder.{counter, threshold}
 use Rattle.exchange.specs.Examples.{Examples}
 use Rattle.exchange.specs.Sampler.{candidate, appended, sampleBelow, sample}
 

@@ -5,7 +5,7 @@ use mathlib.Core.List.{[], _∷_}
 use Prim.Native.Nat.{_-_, _^_, _<_}
 use Rattle.ring.specs.Levels.{level1, level3}
 use Rattle.ring.specs.Polynomials.{mul, terms, IsInverse, hasInverse}
-use Rattle.decoder.specs.Decoder.{counter, threshold}
+use Rattle.exchange.specs.decoder.Decoder.{counter, threshold}
 use Rattle.exchange.specs.Sampler.{sample}
 
 pub record Examples : Type 0 where

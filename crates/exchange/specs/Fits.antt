@@ -9,8 +9,8 @@ use Rattle.hashing.specs.Answers.Outcome.{gives}
 use Rattle.hashing.specs.Lists.{bits}
 use Rattle.ring.specs.Bytes.{padSet}
 use Rattle.ring.specs.Levels.{Level, messageBytes, polyBytes, ciphertextBytes}
-use Rattle.decoder.specs.Decoder.{decoded, failed}
-use Rattle.decoder.specs.PrivateKey.{secret}
+use Rattle.exchange.specs.decoder.Decoder.{decoded, failed}
+use Rattle.exchange.specs.decoder.PrivateKey.{secret}
 use Rattle.exchange.specs.Opening.{syndromeOf}
 use Rattle.exchange.specs.Promises.{make-key-says}
 use Rattle.exchange.specs.Scheme.{hashH, wrapped}

@@ -5,3 +5,5 @@ pub mod Promises
 pub mod Records
 pub mod Sampler
 pub mod Scheme
+pub mod decoder
+pub mod inner

@@ -6,8 +6,8 @@ use lib.ListN.{take, drop}
 use Rattle.hashing.specs.Lists.{bits}
 use Rattle.ring.specs.Levels.{Level, polyBytes}
 use Rattle.ring.specs.Polynomials.{Poly, mul, same}
-use Rattle.decoder.specs.Decoder.{Pair, found}
-use Rattle.decoder.specs.PrivateKey.{secret, sigma}
+use Rattle.exchange.specs.decoder.Decoder.{Pair, found}
+use Rattle.exchange.specs.decoder.PrivateKey.{secret, sigma}
 use Rattle.exchange.specs.Scheme.{hashH, hashL, hashK, xorBytes}
 
 -- "Decode c0·h0"

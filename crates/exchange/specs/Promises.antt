@@ -10,8 +10,8 @@ use Rattle.hashing.specs.Lists.{bits}
 use Rattle.ring.specs.Bytes.{bytesOf, padSet}
 use Rattle.ring.specs.Levels.{known, levelOf, messageBytes, polyBytes, ciphertextBytes, privateBytes}
 use Rattle.ring.specs.Polynomials.{hasInverse}
-use Rattle.decoder.specs.Decoder.{decoded, failed}
-use Rattle.decoder.specs.PrivateKey.{secret, goodKey}
+use Rattle.exchange.specs.decoder.Decoder.{decoded, failed}
+use Rattle.exchange.specs.decoder.PrivateKey.{secret, goodKey}
 use Rattle.exchange.specs.Opening.{opened}
 use Rattle.exchange.specs.Scheme.{hashH, hashK, h0Of, h1Of, sigmaOf, publicOf, privateKey, wrapped}
 

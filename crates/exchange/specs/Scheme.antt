@@ -10,7 +10,7 @@ use Rattle.hashing.specs.Sponge.{shake256, sha3-384}
 use Rattle.ring.specs.Bytes.{bytesOf, numbers}
 use Rattle.ring.specs.Levels.{Level, messageBytes}
 use Rattle.ring.specs.Polynomials.{Poly, rising, add, mul, inverseOf, listed, support}
-use Rattle.decoder.specs.Decoder.{Pair}
+use Rattle.exchange.specs.decoder.Decoder.{Pair}
 use Rattle.exchange.specs.Sampler.{sampleKey, sampleError}
 
 -- "Key making": the stream of the seed's first 32 bytes, "4d bytes for h0, then the next 4d for h1, each sampled with len r and weight d"

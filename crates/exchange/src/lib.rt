@@ -1,5 +1,6 @@
 // BIKE as document 01 fixes it: key making, wrapping, decoding, opening, and the record reader.
 pub mod bytes;
+pub mod decoder;
 pub mod digest;
 pub mod doors;
 pub mod error;

@@ -1,10 +1,11 @@
 // Opening: the session key of a ciphertext, from the error that was found in it.
 use crate::bytes;
+use crate::decoder::Key;
+use crate::decoder::find;
 use crate::digest::digest32;
 use crate::digest::no_digest;
 use crate::error;
 use crate::wrapping;
-use decoder::Key;
 use ring::WORDS;
 use ring::size;
 use ring::sparse::sparse;
@@ -20,9 +21,9 @@ ghost use Rattle.ring.specs.Bytes.{bytesOf};
 ghost use Rattle.ring.specs.Levels.{levelOf, messageBytes, polyBytes, ciphertextBytes};
 ghost use Rattle.ring.specs.Polynomials.{InRing, Tells, mul};
 ghost use Rattle.exchange.specs.Opening.{either, keyFor};
-ghost use Rattle.decoder.specs.Decoder.{found};
+ghost use Rattle.exchange.specs.decoder.Decoder.{found};
 ghost use Rattle.exchange.specs.Scheme.{xorBytes};
-ghost use Rattle.decoder.specs.Working.{keyOf, Good};
+ghost use Rattle.exchange.specs.inner.Working.{keyOf, Good};
 
 // An error's bytes, each half at the front of its array.
 fn stored(level: u32, e0: [u64; WORDS], e1: [u64; WORDS]) -> error::Halves
@@ -127,7 +128,7 @@ pub fn write(level: u32, key: Key, sigma: &[u8], ciphertext: &[u8], session_key:
 {
     let n = size::polynomial(level);
     let s = syndrome(level, key, words::load(&ciphertext[..n]));
-    let e = decoder::find(level, key, s);
+    let e = find(level, key, s);
     let e0 = e.e0;
     let e1 = e.e1;
     write_session_key(level, e0, e1, sigma, ciphertext, session_key)

@@ -16,14 +16,14 @@ use Rattle.ring.specs.Bytes.{number, listOf, bytesOf, byteLength, padSet}
 use Rattle.ring.specs.Levels.{levelOf, polyBytes, privateBytes}
 use Rattle.ring.specs.Polynomials.{Poly, InRing}
 use Rattle.ring.proofs.Layouts.{pad-rule}
-use Rattle.decoder.specs.Decoder.{nothing, failed, found, Pair}
-use Rattle.decoder.specs.PrivateKey.{secret, goodKey}
+use Rattle.exchange.specs.decoder.Decoder.{nothing, failed, found, Pair}
+use Rattle.exchange.specs.decoder.PrivateKey.{secret, goodKey}
 use Rattle.exchange.specs.Promises.{differs, decode-says}
-use Rattle.decoder.specs.Working.{keyOf}
+use Rattle.exchange.specs.inner.Working.{keyOf}
 use Rattle.ring.proofs.Bools.{both-false}
 use Rattle.exchange.proofs.Lengths.{agree}
 use Rattle.ring.proofs.Levels.{sizes}
-use Rattle.decoder.proofs.Laws.{found-of, found-none, read-secret, read-good, good-read}
+use Rattle.exchange.proofs.decoder.Laws.{found-of, found-none, read-secret, read-good, good-read}
 use Rattle.exchange.proofs.decode.Statement.{statement}
 use Rattle.exchange.proofs.decode.Tie as tie
 

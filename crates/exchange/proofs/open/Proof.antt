@@ -14,16 +14,16 @@ use Rattle.ring.specs.Bytes.{byteLength, padSet}
 use Rattle.ring.specs.Levels.{levelOf, messageBytes, polyBytes, ciphertextBytes, privateBytes}
 use Rattle.ring.specs.Polynomials.{InRing, mul}
 use Rattle.ring.proofs.Layouts.{pad-rule}
-use Rattle.decoder.specs.PrivateKey.{secret, sigma, goodKey}
+use Rattle.exchange.specs.decoder.PrivateKey.{secret, sigma, goodKey}
 use Rattle.exchange.specs.Opening.{syndromeOf, keyFor, opened}
-use Rattle.decoder.specs.Decoder.{found, Pair}
+use Rattle.exchange.specs.decoder.Decoder.{found, Pair}
 use Rattle.exchange.specs.Promises.{differs, open-says}
-use Rattle.decoder.specs.Working.{keyOf}
+use Rattle.exchange.specs.inner.Working.{keyOf}
 use Rattle.ring.proofs.Bools.{both-false}
 use Rattle.exchange.proofs.Lengths.{agree}
 use Rattle.exchange.proofs.Parts.{rest-all}
 use Rattle.exchange.proofs.Streams.{below-take}
-use Rattle.decoder.proofs.Laws.{read-secret, read-good, good-read}
+use Rattle.exchange.proofs.decoder.Laws.{read-secret, read-good, good-read}
 use Rattle.exchange.proofs.open.Statement.{statement}
 use Rattle.exchange.proofs.open.Tie as tie
 

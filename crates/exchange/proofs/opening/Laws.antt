@@ -9,7 +9,7 @@ use Rattle.ring.specs.Polynomials.{Poly, InRing, Tells, same}
 use Rattle.ring.proofs.Inverses.{same-equal}
 use Rattle.ring.proofs.Layouts.{bits-bytesOf}
 use Rattle.exchange.specs.Opening.{sameError, either}
-use Rattle.decoder.specs.Decoder.{Pair}
+use Rattle.exchange.specs.decoder.Decoder.{Pair}
 use Rattle.exchange.proofs.Demand.{same-refl}
 use Rattle.ring.proofs.Bools.{both-true}
 

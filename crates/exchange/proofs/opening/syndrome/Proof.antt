@@ -4,7 +4,7 @@ use native.Mathlib.Omega.{arith}
 use borrow.Author.Needs.{needs}
 use lib.ListN.{length}
 use Rattle.ring.proofs.Levels.{sizes}
-use Rattle.decoder.proofs.Listing.{position-below, product}
+use Rattle.exchange.proofs.decoder.Listing.{position-below, product}
 use Rattle.exchange.proofs.opening.syndrome.Statement.{statement}
 use Rattle.exchange.proofs.opening.syndrome.Tie as tie
 

@@ -9,10 +9,10 @@ use Rattle.ring.specs.Levels.{levelOf, polyBytes}
 use Rattle.ring.specs.Polynomials.{Poly, mul}
 use Rattle.ring.proofs.Levels.{r-pos, sizes}
 use Rattle.ring.proofs.Ring.{mul-in}
-use Rattle.decoder.specs.Decoder.{found}
+use Rattle.exchange.specs.decoder.Decoder.{found}
 use Rattle.exchange.specs.Opening.{keyFor}
-use Rattle.decoder.specs.Working.{keyOf}
-use Rattle.decoder.proofs.Laws.{pair-path, found-in}
+use Rattle.exchange.specs.inner.Working.{keyOf}
+use Rattle.exchange.proofs.decoder.Laws.{pair-path, found-in}
 use Rattle.exchange.proofs.opening.write.Statement.{statement}
 use Rattle.exchange.proofs.opening.write.Tie as tie
 

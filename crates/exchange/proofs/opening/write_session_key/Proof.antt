@@ -6,7 +6,7 @@ use borrow.Author.Needs.{needs}
 use Rattle.hashing.specs.Lists.{bits}
 use Rattle.ring.specs.Levels.{levelOf}
 use Rattle.exchange.specs.Opening.{messageOf, sameError, either, keyFor}
-use Rattle.decoder.specs.Decoder.{Pair}
+use Rattle.exchange.specs.decoder.Decoder.{Pair}
 use Rattle.exchange.specs.Scheme.{hashH, hashL, hashK}
 use Rattle.exchange.proofs.Errors.{error-in0, error-in1}
 use Rattle.exchange.proofs.Parts.{front-room}

@@ -10,7 +10,7 @@ use Rattle.ring.specs.Levels.{levelOf}
 use Rattle.ring.specs.Polynomials.{rising, mul}
 use Rattle.ring.proofs.Levels.{r-small, sizes}
 use Rattle.ring.proofs.Ring.{mul-comm}
-use Rattle.decoder.proofs.Listing
+use Rattle.exchange.proofs.decoder.Listing
 use Rattle.exchange.proofs.Making.{length-rising, support-rising, rising-good}
 use Rattle.exchange.proofs.Parts.{front-set}
 use Rattle.exchange.proofs.wrapping.error_times.Statement.{statement}

@@ -1,4 +1,0 @@
-pub mod Counting
-pub mod Decoder
-pub mod PrivateKey
-pub mod Working

@@ -1,0 +1,198 @@
+-- Laws of the decoder's definitions, and of what the code makes of them. Assumes nothing.
+use mathlib.Core.Path.{_≡_, refl, sym, ap, ap₂, _∙_, fun-ext}
+use mathlib.Core.Bool.{Bool, true, false, not, _&&_, and-false}
+use mathlib.Core.List.{List}
+use Prim.Native.Nat.{ℕ, zero, suc, _+_, _-_, _*_, _/_, _^_, _≤_, _<_}
+use native.Mathlib.Decide.{decLt}
+use native.Mathlib.Nat.{not-suc-le-zero, add-sub-of-le, add-zero, le-add-right, le-trans, le-max-right}
+use native.Mathlib.Numerals.{add-one}
+use native.Mathlib.Omega.{arith}
+use borrow.Author.Tests.{le-ltb}
+use lib.Dec.{leb, ltb, lit<, lit≤}
+use lib.ListN.{length, getD, take}
+use Rattle.ring.specs.Levels.{Level, level1, level3, levelOf}
+use Rattle.ring.specs.Polynomials.{Poly, InRing, flip, add, weight, support}
+use Rattle.ring.proofs.Bools.{both-true}
+use Rattle.ring.proofs.Levels.{each, sizes}
+use Rattle.ring.proofs.Ring
+use Rattle.exchange.specs.decoder.Decoder.{counter, threshold, nothing, residual, reaching, among, without, flipped, black, gray, round, maskedStep, step, after, decoded, failed, found, Pair}
+use Rattle.exchange.specs.decoder.PrivateKey.{positions0, positions1, secret, risingFrom, goodKey}
+use Rattle.exchange.specs.inner.Working.{keyOf, Good, Counted}
+use Rattle.exchange.specs.declared.decoder.private_key
+use Rattle.ring.proofs.Weights.{weight-ext, weight-none, weight-add}
+
+pub pair-path : {e f : Pair} → e .half0 ≡ f .half0 → e .half1 ≡ f .half1 → e ≡ f
+pair-path p q = λ i. record { half0 = p i; half1 = q i }
+
+abbrev pub InPair : ℕ → Pair → Type 0
+InPair r e = InRing r (e .half0) × InRing r (e .half1)
+
+-- what is marked below r is in the ring
+pub below-in : (r : ℕ) (f : ℕ → Bool) → InRing r (λ j. ltb j r && f j)
+below-in r f k past = rw (le-ltb k r past)
+
+pub reaching-in : (r : ℕ) (h : Pair) (res : Poly) (bound : ℕ) → InPair r (reaching r h res bound)
+unfolding reaching
+reaching-in r h res bound = (below-in r _, below-in r _)
+
+pub flipped-in : (r : ℕ) (e f : Pair) → InPair r e → InPair r f → InPair r (flipped e f)
+unfolding flipped
+flipped-in r e f he hf = (Ring.add-in r (he .0) (hf .0), Ring.add-in r (he .1) (hf .1))
+
+pub among-in : (r : ℕ) (marks e : Pair) → InPair r e → InPair r (among marks e)
+unfolding among
+among-in r marks e he =
+    (λ k past. rw (he .0 k past) (and-false (marks .half0 k)), λ k past. rw (he .1 k past) (and-false (marks .half1 k)))
+
+module _ (l : Level) (h : Pair) (s : Poly) where
+  pub masked-in : (marks e : Pair) → InPair (l .r) e → InPair (l .r) (maskedStep l h s marks e)
+  unfolding maskedStep
+  masked-in marks e he = flipped-in (l .r) e _ he (among-in (l .r) marks _ (reaching-in (l .r) h _ _))
+
+  pub round-in : (e : Pair) → InPair (l .r) e → InPair (l .r) (round l h s e)
+  unfolding round black
+  round-in e he = flipped-in (l .r) e _ he (reaching-in (l .r) h _ _)
+
+  pub step-in : (i : ℕ) (e : Pair) → InPair (l .r) e → InPair (l .r) (step l h s i e)
+  unfolding step
+  step-in zero e he = masked-in _ _ (masked-in _ _ (round-in e he))
+  step-in (suc i) e he = round-in e he
+
+  pub after-in : (n : ℕ) → InPair (l .r) (after l h s n)
+  unfolding after nothing
+  after-in zero = (λ k past. refl, λ k past. refl)
+  after-in (suc n) = step-in n _ (after-in n)
+
+  pub decoded-in : InPair (l .r) (decoded l h s)
+  unfolding decoded
+  decoded-in = after-in 5
+
+  pub found-in : InPair (l .r) (found l h s)
+  unfolding found nothing
+  found-in = go (failed l h s)
+    where
+      go : (t : Bool) → InPair (l .r) (elim t [ true ↦ nothing | false ↦ decoded l h s ])
+      go true = (λ k past. refl, λ k past. refl)
+      go false = decoded-in
+
+-- what is found, by whether a residual is left
+pub found-of : (l : Level) (h : Pair) (s : Poly) → failed l h s ≡ false → found l h s ≡ decoded l h s
+unfolding found
+found-of l h s e = rw (e, found)
+
+pub found-none : (l : Level) (h : Pair) (s : Poly) → failed l h s ≡ true → found l h s ≡ nothing
+unfolding found
+found-none l h s e = rw (e, found)
+
+pub inside-by : (r : ℕ) {e f : Pair} → e ≡ f → InPair r f → InPair r e
+inside-by r same inside = rw same inside
+
+pub residual-in : (r : ℕ) → 0 < r → (h : Pair) {s : Poly} (e : Pair) → InRing r s → InRing r (residual r h s e)
+unfolding residual
+residual-in r pos h e hs = Ring.add-in r hs (Ring.add-in r (Ring.mul-in r pos _ _) (Ring.mul-in r pos _ _))
+
+pub after-more : (l : Level) (h : Pair) (s : Poly) (n : ℕ) → after l h s (n + 1) ≡ step l h s n (after l h s n)
+unfolding after
+after-more l h s n = ap (after l h s) (add-one n)
+
+-- "In round 1 only"
+module _ (l : Level) (h : Pair) (s : Poly) (e : Pair) where
+  pub step-first : (i : ℕ) → i ≤ 0 → step l h s i e ≡ maskedStep l h s (gray l h s e) (maskedStep l h s (black l h s e) (round l h s e))
+  unfolding step
+  step-first zero none = refl
+  step-first (suc i) none = absurd (not-suc-le-zero none)
+
+  pub step-later : (i : ℕ) → 0 < i → step l h s i e ≡ round l h s e
+  unfolding step
+  step-later zero some = absurd (not-suc-le-zero some)
+  step-later (suc i) some = refl
+
+-- the words up to that of r hold all of a polynomial of the ring
+pub in-words : (r : ℕ) {a : Poly} → InRing r a → InRing (64 * (r / 64 + 1)) a
+in-words r h k past = h k (omega arith)
+
+pub few-words : (level r : ℕ) → r ≡ levelOf level .r → r / 64 + 1 ≤ 386
+few-words level r e = omega (arith, sizes level)
+
+-- and so does its weight
+pub weight-in : (r n : ℕ) {a : Poly} → InRing r a → r ≤ n → weight n a ≡ weight r a
+weight-in r n {a = a} h le =
+    ap (λ (m : ℕ). weight m a) (sym (add-sub-of-le le)) ∙ weight-add r (n - r) a
+    ∙ ap (_+_ (weight r a)) (weight-ext (n - r) {b = λ k. false} (λ k below. h (r + k) (le-add-right r k)) ∙ weight-none (n - r))
+    ∙ add-zero (weight r a)
+
+pub weight-le : (n : ℕ) (a : Poly) → weight n a ≤ n
+unfolding weight
+weight-le zero a = omega arith
+weight-le (suc n) a = go (a n) (weight-le n a)
+  where
+    go : (t : Bool) → weight n a ≤ n → weight n a + elim t [ true ↦ 1 | false ↦ 0 ] ≤ suc n
+    go true h = omega arith
+    go false h = omega arith
+
+-- the bytes of the counters are compared with a bound
+pub marked : (r : ℕ) (h res : Poly) (count : List ℕ) (bound : ℕ) → Counted r h res count
+    → _≡_ {A = Poly} (λ j. ltb j r && leb bound (getD count j 0)) (λ j. ltb j r && leb bound (counter r h res j))
+marked r h res count bound counted = fun-ext (λ j. go j (decLt j r))
+  where
+    go : (j : ℕ) → Dec (j < r) → ltb j r && leb bound (getD count j 0) ≡ ltb j r && leb bound (counter r h res j)
+    go j (yes below) = rw (counted .1 j below)
+    go j (no past) = let end : r ≤ j = omega arith in rw (le-ltb j r end)
+
+pub reached : (r : ℕ) (h : Pair) (res : Poly) (c0 c1 : List ℕ) (bound : ℕ) {m : Pair} → Counted r (h .half0) res c0 × Counted r (h .half1) res c1
+    → (m .half0 ≡ (λ j. ltb j r && leb bound (getD c0 j 0))) × (m .half1 ≡ (λ j. ltb j r && leb bound (getD c1 j 0))) → m ≡ reaching r h res bound
+unfolding reaching
+reached r h res c0 c1 bound counted is =
+    pair-path (is .0 ∙ marked r (h .half0) res c0 bound (counted .0)) (is .1 ∙ marked r (h .half1) res c1 bound (counted .1))
+
+-- a, flipped where b has it too
+flip-common : (a b : Bool) → flip a (b && a) ≡ a && not b
+flip-common true true = refl
+flip-common true false = refl
+flip-common false true = refl
+flip-common false false = refl
+
+pub without-flipped : (a b : Pair) → flipped a (among b a) ≡ without a b
+unfolding flipped among without add
+without-flipped a b =
+    pair-path (fun-ext (λ k. flip-common (a .half0 k) (b .half0 k))) (fun-ext (λ k. flip-common (a .half1 k) (b .half1 k)))
+
+-- the numbers of a threshold, whatever the weight
+pub record Bounds (l : Level) (s : ℕ) : Type 0 where
+  pub product : l .slope * s < 2 ^ 40
+  pub sum : l .slope * s + l .offset < 2 ^ 40
+  pub divides : 0 < l .divisor
+  pub quotient : (l .slope * s + l .offset) / l .divisor < 256
+  pub least : 3 ≤ l .floor
+  pub most : l .floor < 256
+
+pub bounds : (level s : ℕ) → s ≤ levelOf level .r → Bounds (levelOf level) s
+unfolding level1 level3
+bounds level s = each (λ l. s ≤ l .r → Bounds l s) one three level
+  where
+    one : s ≤ level1 .r → Bounds level1 s
+    one h =
+        record { product = omega arith; sum = omega arith; divides = lit< tt; quotient = omega arith; least = lit≤ tt; most = lit< tt }
+
+    three : s ≤ level3 .r → Bounds level3 s
+    three h =
+        record { product = omega arith; sum = omega arith; divides = lit< tt; quotient = omega arith; least = lit≤ tt; most = lit< tt }
+
+pub threshold-least : (level s : ℕ) → 3 ≤ threshold (levelOf level) s
+unfolding level1 level3 threshold
+threshold-least level s = each (λ l. 3 ≤ threshold l s) (le-trans (lit≤ tt) (le-max-right _ 36)) (le-trans (lit≤ tt) (le-max-right _ 52)) level
+
+-- a key that was read from bytes: its polynomials, and what the test of its positions tells
+module _ (l : Level) (key : private_key.Key.Key) (bytes : List ℕ)
+    (read : ((length (key .h0) ≡ 103) × (take (l .d) (key .h0) ≡ positions0 l bytes)) × ((length (key .h1) ≡ 103) × (take (l .d) (key .h1) ≡ positions1 l bytes))) where
+  pub read-secret : keyOf l key ≡ secret l bytes
+  unfolding secret
+  read-secret = pair-path (ap support (read .0 .1)) (ap support (read .1 .1))
+
+  module _ {t : Bool} (test : t ≡ risingFrom (l .r) 0 (take (l .d) (key .h0)) && risingFrom (l .r) 0 (take (l .d) (key .h1))) where
+    pub read-good : t ≡ goodKey l bytes
+    unfolding goodKey
+    read-good = test ∙ ap₂ (λ (a b : List ℕ). risingFrom (l .r) 0 a && risingFrom (l .r) 0 b) (read .0 .1) (read .1 .1)
+
+    pub good-read : t ≡ true → Good l key
+    good-read good = let rise = both-true _ _ (sym test ∙ good) in ((read .0 .0, rise .0), (read .1 .0, rise .1))

@@ -1,0 +1,10 @@
+// The Black-Gray-Flip decoder: how a private key is read, the counters, the rounds.
+pub mod counters;
+pub mod halves;
+pub mod private_key;
+pub mod rounds;
+
+pub use crate::decoder::private_key::Key;
+pub use crate::decoder::private_key::is_good;
+pub use crate::decoder::private_key::read_key;
+pub use crate::decoder::rounds::find;
