@@ -18,6 +18,7 @@ use Rattle.ring.proofs.Levels.{r-pos}
 use Rattle.ring.proofs.Ring.{mul-in}
 use Rattle.exchange.specs.Fits.{FromKeyMaking, Bytes, WellFormed, Fits}
 use Rattle.exchange.specs.Opening.{opened}
+use Rattle.exchange.specs.decoder.Decoder.{bgf}
 use Rattle.exchange.specs.Promises.{seedBytes, differs, make-key-says, wrap-says, open-says}
 use Rattle.exchange.specs.Scheme.{hashK, h0Of, publicOf, wrapped}
 use Rattle.exchange.proofs.Demand.{wrapped-well-formed}
@@ -47,7 +48,7 @@ module _ (level : ℕ) (seed m : List ℕ) (roomSent roomOpened : ℕ) (level-kn
 
   pub ends : hasInverse (levelOf level .r) (h0Of (levelOf level) seed) ≡ true →
       let c = sentTo (levelOf level) seed m in
-      both-ends-says level seed m roomSent roomOpened ≡ gives 0 (hashK m c ∷ opened (levelOf level) (privateOf (levelOf level) seed) c ∷ [])
+      both-ends-says level seed m roomSent roomOpened ≡ gives 0 (hashK m c ∷ opened bgf (levelOf level) (privateOf (levelOf level) seed) c ∷ [])
   unfolding both-ends-says settle firstOf content differs
   ends there =
       rw (level-known, eq-eqb _ _ seed-long, eq-eqb _ _ m-long, eq-eqb _ _ sent-long, eq-eqb _ _ opened-long, there)
@@ -98,21 +99,21 @@ module _ (level : ℕ) (seed m public private : List ℕ) (pair : FromKeyMaking 
 
   pub controller :
       let c = sentTo (levelOf level) seed m in
-      open-says level private c messageBytes ≡ gives 0 (opened (levelOf level) (privateOf (levelOf level) seed) c ∷ [])
+      open-says level private c messageBytes ≡ gives 0 (opened bgf (levelOf level) (privateOf (levelOf level) seed) c ∷ [])
   controller =
       opens level seed public private pair (sentTo (levelOf level) seed m) well-formed
-      ∙ ap (λ (key : List ℕ). gives 0 (opened (levelOf level) key (sentTo (levelOf level) seed m) ∷ [])) private-is
+      ∙ ap (λ (key : List ℕ). gives 0 (opened bgf (levelOf level) key (sentTo (levelOf level) seed m) ∷ [])) private-is
 
   demand : Demand3 level seed public private (sentTo (levelOf level) seed m)
   demand = demand-3 level seed public private pair (sentTo (levelOf level) seed m) well-formed
 
-  fits : Finds (levelOf level) seed m → Fits (levelOf level) public private (sentTo (levelOf level) seed m) m
+  fits : Finds bgf (levelOf level) seed m → Fits bgf (levelOf level) public private (sentTo (levelOf level) seed m) m
   fits found =
       rw private-is (record { message = message; wraps = wrapped-is; decodes = found .decodes; finds = found .finds })
 
   pub agree :
       let c = sentTo (levelOf level) seed m in
-      Agree (levelOf level) seed m (hashK m c) (opened (levelOf level) (privateOf (levelOf level) seed) c)
+      Agree (levelOf level) seed m (hashK m c) (opened bgf (levelOf level) (privateOf (levelOf level) seed) c)
   agree =
       record {
         same = λ found. one-output (sym controller ∙ demand .if-one-fits m (fits found) .1) .1;

@@ -8,7 +8,7 @@ use Rattle.hashing.specs.Answers.{Outcome, settle}
 use Rattle.ring.specs.Bytes.{bytesOf}
 use Rattle.ring.specs.Levels.{Level, known, levelOf, messageBytes}
 use Rattle.ring.specs.Polynomials.{hasInverse}
-use Rattle.exchange.specs.decoder.Decoder.{decoded, failed}
+use Rattle.exchange.specs.decoder.Decoder.{Decoder, bgf, failed}
 use Rattle.exchange.specs.decoder.PrivateKey.{secret}
 use Rattle.exchange.specs.Fits.{Fits}
 use Rattle.exchange.specs.Opening.{syndromeOf, opened}
@@ -35,20 +35,20 @@ both-ends-says level seed m roomSent roomOpened =
     }
     ∷ record { applies = not (hasInverse (l .r) (h0Of l seed)); number = 5 }
     ∷ [])
-    (record { room = roomSent; value = hashK m c } ∷ record { room = roomOpened; value = opened l (privateOf l seed) c } ∷ [])
+    (record { room = roomSent; value = hashK m c } ∷ record { room = roomOpened; value = opened bgf l (privateOf l seed) c } ∷ [])
 
 -- "the decoder finds the message's error"
-pub record Finds (l : Level) (seed m : List ℕ) : Type 0 where
-  pub decodes : failed l (secret l (privateOf l seed)) (syndromeOf l (privateOf l seed) (sentTo l seed m)) ≡ false
-  pub finds : decoded l (secret l (privateOf l seed)) (syndromeOf l (privateOf l seed) (sentTo l seed m)) ≡ hashH l m
+pub record Finds (decoder : Decoder) (l : Level) (seed m : List ℕ) : Type 0 where
+  pub decodes : failed decoder l (secret l (privateOf l seed)) (syndromeOf l (privateOf l seed) (sentTo l seed m)) ≡ false
+  pub finds : decoder l (secret l (privateOf l seed)) (syndromeOf l (privateOf l seed) (sentTo l seed m)) ≡ hashH l m
 
 -- n fits what is sent
-abbrev pub FitsSent : Level → List ℕ → List ℕ → List ℕ → Type 0
-FitsSent l seed m n = Fits l (bytesOf (l .r) (publicOf l seed)) (privateOf l seed) (sentTo l seed m) n
+abbrev pub FitsSent : Decoder → Level → List ℕ → List ℕ → List ℕ → Type 0
+FitsSent decoder l seed m n = Fits decoder l (bytesOf (l .r) (publicOf l seed)) (privateOf l seed) (sentTo l seed m) n
 
 -- "the same session key at both ends whenever the decoder finds the message's error, and the substitute's key otherwise": it may be that
 -- the decoder finds the error of another message that fits, and then the key is that one's
 pub record Agree (l : Level) (seed m sent opened : List ℕ) : Type 0 where
-  pub same : Finds l seed m → opened ≡ sent
-  pub another : (n : List ℕ) → FitsSent l seed m n → opened ≡ hashK n (sentTo l seed m)
-  pub substitute : ((n : List ℕ) → FitsSent l seed m n → ⊥) → opened ≡ hashK (sigmaOf seed) (sentTo l seed m)
+  pub same : Finds bgf l seed m → opened ≡ sent
+  pub another : (n : List ℕ) → FitsSent bgf l seed m n → opened ≡ hashK n (sentTo l seed m)
+  pub substitute : ((n : List ℕ) → FitsSent bgf l seed m n → ⊥) → opened ≡ hashK (sigmaOf seed) (sentTo l seed m)

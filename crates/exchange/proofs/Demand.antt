@@ -26,8 +26,8 @@ use Rattle.ring.proofs.Ring
 use Rattle.ring.proofs.Bools.{both-true}
 use Rattle.exchange.proofs.Errors.{error-in0, error-in1}
 use Rattle.exchange.proofs.Streams.{below-append, below-take, below-drop, below-tab}
-use Rattle.exchange.proofs.decoder.Laws.{InPair, pair-path, decoded-in, residual-in, found-of, found-none}
-use Rattle.exchange.specs.decoder.Decoder.{nothing, residual, decoded, failed, found, Pair}
+use Rattle.exchange.proofs.decoder.Laws.{InPair, Stays, pair-path, residual-in, found-of, found-none}
+use Rattle.exchange.specs.decoder.Decoder.{Decoder, Pair, nothing, residual, failed, found}
 use Rattle.exchange.specs.Fits.{Bytes, WellFormed, Fits}
 use Rattle.exchange.specs.decoder.PrivateKey.{secret, sigma}
 use Rattle.exchange.specs.Opening.{syndromeOf, messageOf, sameError, keyFor, opened}
@@ -51,29 +51,29 @@ unfolding same
 same-refl zero a = refl
 same-refl (suc r) a = rw (same-refl r a, flip-self (a r))
 
-module _ (l : Level) {public private c m : List ℕ} where
+module _ (decoder : Decoder) (l : Level) {public private c m : List ℕ} where
   -- the message that opening works out of m's own error is m
-  fits-message : Fits l public private c m → messageOf l (hashH l m) c ≡ m
+  fits-message : Fits decoder l public private c m → messageOf l (hashH l m) c ≡ m
   unfolding messageOf wrapped
   fits-message fits =
       rw (← (fits .wraps), drop-at (bytesOf (l .r) (add (hashH l m .half0) (mul (l .r) (hashH l m .half1) (bits 8 public)))) (xorBytes m (hashL (l .r) (hashH l m))) (polyBytes l) (bytesOf-length (l .r) _))
       (xor-twice m (hashL (l .r) (hashH l m)) (fits .message .size))
 
   -- "If one fits, opening gives the session key that wrapping m gave"
-  pub fitting-opens : Fits l public private c m → opened l private c ≡ hashK m c
+  pub fitting-opens : Fits decoder l public private c m → opened decoder l private c ≡ hashK m c
   unfolding opened keyFor sameError
   fitting-opens fits =
-      let e : found l (secret l private) (syndromeOf l private c) ≡ hashH l m = found-of l _ _ (fits .decodes) ∙ fits .finds in
+      let e : found decoder l (secret l private) (syndromeOf l private c) ≡ hashH l m = found-of decoder l _ _ (fits .decodes) ∙ fits .finds in
       rw (e, fits-message fits, same-refl (l .r) (hashH l m .half0), same-refl (l .r) (hashH l m .half1))
 
 -- "At most one m fits a ciphertext"
-pub at-most-one : (l : Level) {public private c m n : List ℕ} → Fits l public private c m → Fits l public private c n → m ≡ n
-at-most-one l {c = c} fits other =
-    sym (fits-message l fits) ∙ ap (λ e. messageOf l e c) (sym (fits .finds) ∙ other .finds) ∙ fits-message l other
+pub at-most-one : (decoder : Decoder) (l : Level) {public private c m n : List ℕ} → Fits decoder l public private c m → Fits decoder l public private c n → m ≡ n
+at-most-one decoder l {c = c} fits other =
+    sym (fits-message decoder l fits) ∙ ap (λ e. messageOf l e c) (sym (fits .finds) ∙ other .finds) ∙ fits-message decoder l other
 
 -- "and no m fits two"
-pub no-two : (l : Level) {public private c d m : List ℕ} → Fits l public private c m → Fits l public private d m → c ≡ d
-no-two l fits other = sym (fits .wraps) ∙ other .wraps
+pub no-two : (decoder : Decoder) (l : Level) {public private c d m : List ℕ} → Fits decoder l public private c m → Fits decoder l public private d m → c ≡ d
+no-two decoder l fits other = sym (fits .wraps) ∙ other .wraps
 
 -- a polynomial of the ring with weight 0 is 0
 weightless : (r : ℕ) (a : Poly) → weight r a ≡ 0 → (k : ℕ) → k < r → a k ≡ false
@@ -90,14 +90,14 @@ weightless (suc r) a e k below = go (ℕ-discrete k r) (weightless r a (omega ar
     go (no there) before = before k (omega arith)
 
 -- no bit is left where the decoder did not fail
-gone : (l : Level) (h : Pair) (s : Poly) → 0 < l .r → InRing (l .r) s → failed l h s ≡ false
-    → residual (l .r) h s (decoded l h s) ≡ (λ k. false)
+gone : (decoder : Decoder) (l : Level) (h : Pair) (s : Poly) → 0 < l .r → InRing (l .r) s → failed decoder l h s ≡ false
+    → residual (l .r) h s (decoder l h s) ≡ (λ k. false)
 unfolding failed
-gone l h s pos hs ok =
+gone decoder l h s pos hs ok =
     Ring.ring-ext (l .r)
-    (residual-in (l .r) pos h (decoded l h s) hs)
+    (residual-in (l .r) pos h (decoder l h s) hs)
     (λ k past. refl)
-    (weightless (l .r) (residual (l .r) h s (decoded l h s)) (none _ ok))
+    (weightless (l .r) (residual (l .r) h s (decoder l h s)) (none _ ok))
   where
     none : (n : ℕ) → ltb 0 n ≡ false → n ≡ 0
     none n e = let most : n ≤ 0 = ltb-false 0 n e in omega arith
@@ -165,7 +165,7 @@ wrapped-well-formed l pos h m small =
     second : Bytes messageBytes c1
     second = xor-bytes m (hashL (l .r) (hashH l m)) small (hashL-below (l .r) (hashH l m))
 
-module _ (l : Level) (pos : 0 < l .r) (public private c : List ℕ) (wellFormed : WellFormed l c) (matched : Matched (l .r) (bits 8 public) (secret l private)) where
+module _ (decoder : Decoder) (l : Level) (pos : 0 < l .r) (stays : Stays decoder l) (public private c : List ℕ) (wellFormed : WellFormed l c) (matched : Matched (l .r) (bits 8 public) (secret l private)) where
   head : List ℕ
   head = take (polyBytes l) c
 
@@ -178,8 +178,8 @@ module _ (l : Level) (pos : 0 < l .r) (public private c : List ℕ) (wellFormed 
   head-in = pad-rule (l .r) head head-size (below-take 8 (polyBytes l) c (wellFormed .bytes .small)) .0 (wellFormed .noPad)
 
   -- where opening's check passes and decoding did not fail, the message that it worked out fits
-  passes-fits : (e : Pair) → e ≡ decoded l (secret l private) (syndromeOf l private c) → failed l (secret l private) (syndromeOf l private c) ≡ false
-      → e ≡ hashH l (messageOf l e c) → Fits l public private c (messageOf l e c)
+  passes-fits : (e : Pair) → e ≡ decoder l (secret l private) (syndromeOf l private c) → failed decoder l (secret l private) (syndromeOf l private c) ≡ false
+      → e ≡ hashH l (messageOf l e c) → Fits decoder l public private c (messageOf l e c)
   unfolding head syndromeOf wrapped messageOf
   passes-fits e is ok passes =
       record { message = messageOf-bytes l e c (wellFormed .bytes .small); wraps = again; decodes = ok; finds = sym is ∙ passes }
@@ -193,8 +193,8 @@ module _ (l : Level) (pos : 0 < l .r) (public private c : List ℕ) (wellFormed 
       c0 : add (e .half0) (mul (l .r) (e .half1) (bits 8 public)) ≡ bits 8 head
       c0 =
           sym
-          (recover (l .r) pos (bits 8 public) (bits 8 head) k e matched head-in (rw is (decoded-in l k s .0))
-          (rw is (gone l k s pos (Ring.mul-in (l .r) pos _ _) ok)))
+          (recover (l .r) pos (bits 8 public) (bits 8 head) k e matched head-in (rw is (stays k s .0))
+          (rw is (gone decoder l k s pos (Ring.mul-in (l .r) pos _ _) ok)))
 
       first : bytesOf (l .r) (bits 8 head) ≡ head
       first = bytesOf-bits (l .r) head head-size (below-take 8 (polyBytes l) c (wellFormed .bytes .small))
@@ -206,22 +206,22 @@ module _ (l : Level) (pos : 0 < l .r) (public private c : List ℕ) (wellFormed 
       again : wrapped l (bits 8 public) (messageOf l e c) ≡ c
       again = rw (← passes, c0, first, tail) (take-append-drop (polyBytes l) c)
 
-  same-fits : failed l (secret l private) (syndromeOf l private c) ≡ false
-      → sameError (l .r) (found l (secret l private) (syndromeOf l private c)) (hashH l (messageOf l (found l (secret l private) (syndromeOf l private c)) c)) ≡ true
-      → Fits l public private c (messageOf l (found l (secret l private) (syndromeOf l private c)) c)
+  same-fits : failed decoder l (secret l private) (syndromeOf l private c) ≡ false
+      → sameError (l .r) (found decoder l (secret l private) (syndromeOf l private c)) (hashH l (messageOf l (found decoder l (secret l private) (syndromeOf l private c)) c)) ≡ true
+      → Fits decoder l public private c (messageOf l (found decoder l (secret l private) (syndromeOf l private c)) c)
   unfolding sameError
   same-fits ok same-error =
       passes-fits e is ok
       (pair-path (same-equal (l .r) (inside .0) (other .0) (halves .0)) (same-equal (l .r) (inside .1) (other .1) (halves .1)))
     where
       e : Pair
-      e = found l (secret l private) (syndromeOf l private c)
+      e = found decoder l (secret l private) (syndromeOf l private c)
 
-      is : e ≡ decoded l (secret l private) (syndromeOf l private c)
-      is = found-of l (secret l private) (syndromeOf l private c) ok
+      is : e ≡ decoder l (secret l private) (syndromeOf l private c)
+      is = found-of decoder l (secret l private) (syndromeOf l private c) ok
 
       inside : InPair (l .r) e
-      inside = rw is (decoded-in l (secret l private) (syndromeOf l private c))
+      inside = rw is (stays (secret l private) (syndromeOf l private c))
 
       other : InPair (l .r) (hashH l (messageOf l e c))
       other = (error-in0 l (messageOf l e c), error-in1 l (messageOf l e c))
@@ -230,10 +230,10 @@ module _ (l : Level) (pos : 0 < l .r) (public private c : List ℕ) (wellFormed 
       halves = both-true _ _ same-error
 
   -- "if none fits, the key worked out from the substitute sigma and this ciphertext"
-  pub none-opens : ((m : List ℕ) → sameError (l .r) nothing (hashH l m) ≡ false) → ((m : List ℕ) → Fits l public private c m → ⊥)
-      → opened l private c ≡ hashK (sigma l private) c
+  pub none-opens : ((m : List ℕ) → sameError (l .r) nothing (hashH l m) ≡ false) → ((m : List ℕ) → Fits decoder l public private c m → ⊥)
+      → opened decoder l private c ≡ hashK (sigma l private) c
   unfolding opened keyFor
-  none-opens weighty none = go (sameError (l .r) e (hashH l (messageOf l e c))) (failed l k s) refl refl
+  none-opens weighty none = go (sameError (l .r) e (hashH l (messageOf l e c))) (failed decoder l k s) refl refl
     where
       k : Pair
       k = secret l private
@@ -242,12 +242,12 @@ module _ (l : Level) (pos : 0 < l .r) (public private c : List ℕ) (wellFormed 
       s = syndromeOf l private c
 
       e : Pair
-      e = found l k s
+      e = found decoder l k s
 
-      go : (same-error failure : Bool) → sameError (l .r) e (hashH l (messageOf l e c)) ≡ same-error → failed l k s ≡ failure
-          → opened l private c ≡ hashK (sigma l private) c
+      go : (same-error failure : Bool) → sameError (l .r) e (hashH l (messageOf l e c)) ≡ same-error → failed decoder l k s ≡ failure
+          → opened decoder l private c ≡ hashK (sigma l private) c
       go false failure q p = rw q
       go true false q p = absurd (none (messageOf l e c) (same-fits p q))
       go true true q p =
-          let at : sameError (l .r) nothing (hashH l (messageOf l nothing c)) ≡ true = rw (found-none l k s p) at q in
+          let at : sameError (l .r) nothing (hashH l (messageOf l nothing c)) ≡ true = rw (found-none decoder l k s p) at q in
           absurd (true≢false (sym at ∙ weighty (messageOf l nothing c)))

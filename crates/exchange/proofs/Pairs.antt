@@ -25,7 +25,8 @@ use Rattle.exchange.proofs.Errors.{error-weight}
 use Rattle.exchange.proofs.keys.Laws.{h0-half, h1-half}
 use Rattle.exchange.proofs.wrapping.Laws.{pad-clear}
 use Rattle.exchange.proofs.Making.{positions0-back, positions1-back, sigma-back, secret-back, rising-good}
-use Rattle.exchange.specs.decoder.Decoder.{nothing, Pair}
+use Rattle.exchange.proofs.decoder.Laws.{bgf-in}
+use Rattle.exchange.specs.decoder.Decoder.{Pair, nothing, bgf}
 use Rattle.exchange.specs.decoder.PrivateKey.{secret, goodKey, sigma}
 use Rattle.exchange.specs.Opening.{sameError, opened}
 use Rattle.exchange.specs.Fits.{FromKeyMaking, WellFormed, Fits}
@@ -127,12 +128,12 @@ never-nothing level m = go (sameError (levelOf level .r) nothing (hashH (levelOf
 -- "If one fits, opening gives the session key that wrapping m gave; if none fits, the key worked out from the substitute sigma and this
 -- ciphertext, with the same answer number."
 pub record Demand3 (level : ℕ) (seed public private c : List ℕ) : Type 0 where
-  pub at-most-one : (m n : List ℕ) → Fits (levelOf level) public private c m → Fits (levelOf level) public private c n → m ≡ n
-  pub never-two : (m d : List ℕ) → Fits (levelOf level) public private c m → Fits (levelOf level) public private d m → c ≡ d
-  pub if-one-fits : (m : List ℕ) → Fits (levelOf level) public private c m
+  pub at-most-one : (m n : List ℕ) → Fits bgf (levelOf level) public private c m → Fits bgf (levelOf level) public private c n → m ≡ n
+  pub never-two : (m d : List ℕ) → Fits bgf (levelOf level) public private c m → Fits bgf (levelOf level) public private d m → c ≡ d
+  pub if-one-fits : (m : List ℕ) → Fits bgf (levelOf level) public private c m
       → (wrap-says level public m (length c) messageBytes ≡ gives 0 (c ∷ hashK m c ∷ []))
       × (open-says level private c messageBytes ≡ gives 0 (hashK m c ∷ []))
-  pub if-none-fits : ((m : List ℕ) → Fits (levelOf level) public private c m → ⊥)
+  pub if-none-fits : ((m : List ℕ) → Fits bgf (levelOf level) public private c m → ⊥)
       → open-says level private c messageBytes ≡ gives 0 (hashK (sigmaOf seed) c ∷ [])
 
 module _ (level : ℕ) (seed public private : List ℕ) (pair : FromKeyMaking level seed public private) where
@@ -151,7 +152,7 @@ module _ (level : ℕ) (seed public private : List ℕ) (pair : FromKeyMaking le
 
   module _ (c : List ℕ) (wellFormed : WellFormed (levelOf level) c) where
     -- by this private key every well-formed ciphertext opens
-    pub opens : open-says level private c messageBytes ≡ gives 0 (opened (levelOf level) private c ∷ [])
+    pub opens : open-says level private c messageBytes ≡ gives 0 (opened bgf (levelOf level) private c ∷ [])
     unfolding open-says settle firstOf content differs
     opens =
         rw (
@@ -162,21 +163,21 @@ module _ (level : ℕ) (seed public private : List ℕ) (pair : FromKeyMaking le
           good level seed public private made,
         )
 
-    opens-with : {key : List ℕ} → opened (levelOf level) private c ≡ key → open-says level private c messageBytes ≡ gives 0 (key ∷ [])
+    opens-with : {key : List ℕ} → opened bgf (levelOf level) private c ≡ key → open-says level private c messageBytes ≡ gives 0 (key ∷ [])
     opens-with is = opens ∙ ap (λ (key : List ℕ). gives 0 (key ∷ [])) is
 
     pub demand-3 : Demand3 level seed public private c
     demand-3 =
         record {
-          at-most-one = λ m n. at-most-one (levelOf level);
-          never-two = λ m d. no-two (levelOf level);
+          at-most-one = λ m n. at-most-one bgf (levelOf level);
+          never-two = λ m d. no-two bgf (levelOf level);
           if-one-fits = λ m fits. (
             ap (λ (n : ℕ). wrap-says level public m n messageBytes) (wellFormed .bytes .size) ∙ wraps m (fits .message .size)
                 ∙ ap (λ (d : List ℕ). gives 0 (d ∷ hashK m d ∷ [])) (fits .wraps),
-            opens-with (fitting-opens (levelOf level) fits),
+            opens-with (fitting-opens bgf (levelOf level) fits),
           );
           if-none-fits = λ none.
               opens-with
-              (none-opens (levelOf level) (r-pos level) public private c wellFormed (matched level seed public private made) (never-nothing level) none
+              (none-opens bgf (levelOf level) (r-pos level) (bgf-in (levelOf level)) public private c wellFormed (matched level seed public private made) (never-nothing level) none
               ∙ ap (λ (last : List ℕ). hashK last c) (sigma-is level seed public private made));
         }

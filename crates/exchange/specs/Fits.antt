@@ -9,7 +9,7 @@ use Rattle.hashing.specs.Answers.Outcome.{gives}
 use Rattle.hashing.specs.Lists.{bits}
 use Rattle.ring.specs.Bytes.{padSet}
 use Rattle.ring.specs.Levels.{Level, messageBytes, polyBytes, ciphertextBytes}
-use Rattle.exchange.specs.decoder.Decoder.{decoded, failed}
+use Rattle.exchange.specs.decoder.Decoder.{Decoder, failed}
 use Rattle.exchange.specs.decoder.PrivateKey.{secret}
 use Rattle.exchange.specs.Opening.{syndromeOf}
 use Rattle.exchange.specs.Promises.{make-key-says}
@@ -30,8 +30,8 @@ pub record WellFormed (l : Level) (c : List ℕ) : Type 0 where
   pub bytes : Bytes (ciphertextBytes l) c
   pub noPad : padSet (l .r) (take (polyBytes l) c) ≡ false
 
-pub record Fits (l : Level) (public private c m : List ℕ) : Type 0 where
+pub record Fits (decoder : Decoder) (l : Level) (public private c m : List ℕ) : Type 0 where
   pub message : Bytes messageBytes m
   pub wraps : wrapped l (bits 8 public) m ≡ c
-  pub decodes : failed l (secret l private) (syndromeOf l private c) ≡ false
-  pub finds : decoded l (secret l private) (syndromeOf l private c) ≡ hashH l m
+  pub decodes : failed decoder l (secret l private) (syndromeOf l private c) ≡ false
+  pub finds : decoder l (secret l private) (syndromeOf l private c) ≡ hashH l m

@@ -6,7 +6,7 @@ use lib.ListN.{take, drop}
 use Rattle.hashing.specs.Lists.{bits}
 use Rattle.ring.specs.Levels.{Level, polyBytes}
 use Rattle.ring.specs.Polynomials.{Poly, mul, same}
-use Rattle.exchange.specs.decoder.Decoder.{Pair, found}
+use Rattle.exchange.specs.decoder.Decoder.{Decoder, Pair, found}
 use Rattle.exchange.specs.decoder.PrivateKey.{secret, sigma}
 use Rattle.exchange.specs.Scheme.{hashH, hashL, hashK, xorBytes}
 
@@ -30,5 +30,5 @@ unfoldable pub keyFor : Level → List ℕ → List ℕ → Pair → List ℕ
 keyFor l substitute c e =
     let m = messageOf l e c in hashK (either (sameError (l .r) e (hashH l m)) m substitute) c
 
-unfoldable pub opened : Level → List ℕ → List ℕ → List ℕ
-opened l key c = keyFor l (sigma l key) c (found l (secret l key) (syndromeOf l key c))
+unfoldable pub opened : Decoder → Level → List ℕ → List ℕ → List ℕ
+opened decoder l key c = keyFor l (sigma l key) c (found decoder l (secret l key) (syndromeOf l key c))

@@ -10,7 +10,7 @@ use Rattle.hashing.specs.Lists.{bits}
 use Rattle.ring.specs.Bytes.{bytesOf, padSet}
 use Rattle.ring.specs.Levels.{known, levelOf, messageBytes, polyBytes, ciphertextBytes, privateBytes}
 use Rattle.ring.specs.Polynomials.{hasInverse}
-use Rattle.exchange.specs.decoder.Decoder.{decoded, failed}
+use Rattle.exchange.specs.decoder.Decoder.{bgf, failed}
 use Rattle.exchange.specs.decoder.PrivateKey.{secret, goodKey}
 use Rattle.exchange.specs.Opening.{opened}
 use Rattle.exchange.specs.Scheme.{hashH, hashK, h0Of, h1Of, sigmaOf, publicOf, privateKey, wrapped}
@@ -75,10 +75,10 @@ decode-says level key s room0 room1 =
     }
     ∷ record { applies = padSet (l .r) s; number = 3 }
     ∷ record { applies = not (goodKey l key); number = 4 }
-    ∷ record { applies = failed l h (bits 8 s); number = 6 }
+    ∷ record { applies = failed bgf l h (bits 8 s); number = 6 }
     ∷ [])
-    (record { room = room0; value = bytesOf (l .r) (decoded l h (bits 8 s) .half0) }
-    ∷ record { room = room1; value = bytesOf (l .r) (decoded l h (bits 8 s) .half1) }
+    (record { room = room0; value = bytesOf (l .r) (bgf l h (bits 8 s) .half0) }
+    ∷ record { room = room1; value = bytesOf (l .r) (bgf l h (bits 8 s) .half1) }
     ∷ [])
 
 -- opening: a private key and a ciphertext, session key
@@ -91,4 +91,4 @@ open-says level key c roomKey =
     ∷ record { applies = padSet (l .r) (take (polyBytes l) c); number = 3 }
     ∷ record { applies = not (goodKey l key); number = 4 }
     ∷ [])
-    (record { room = roomKey; value = opened l key c } ∷ [])
+    (record { room = roomKey; value = opened bgf l key c } ∷ [])

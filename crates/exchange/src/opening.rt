@@ -21,7 +21,7 @@ ghost use Rattle.ring.specs.Bytes.{bytesOf};
 ghost use Rattle.ring.specs.Levels.{levelOf, messageBytes, polyBytes, ciphertextBytes};
 ghost use Rattle.ring.specs.Polynomials.{InRing, Tells, mul};
 ghost use Rattle.exchange.specs.Opening.{either, keyFor};
-ghost use Rattle.exchange.specs.decoder.Decoder.{found};
+ghost use Rattle.exchange.specs.decoder.Decoder.{bgf, found};
 ghost use Rattle.exchange.specs.Scheme.{xorBytes};
 ghost use Rattle.exchange.specs.inner.Working.{keyOf, Good};
 
@@ -123,7 +123,7 @@ pub fn write(level: u32, key: Key, sigma: &[u8], ciphertext: &[u8], session_key:
     requires { ⌜ (length (now sigma) ≡ messageBytes) × (length (now ciphertext) ≡ ciphertextBytes (levelOf level)) × (length (now «session_key») ≡ messageBytes) ⌝
         ∗ ⌜ Good (levelOf level) key ⌝ ∗ ⌜ InRing (levelOf level .r) (bits 8 (take (polyBytes (levelOf level)) (now ciphertext))) ⌝ }
     ensures { λ r. ⌜ (r ≡ 0) × (now («session_key» .exit) ≡ keyFor (levelOf level) (now (sigma .entry)) (now (ciphertext .entry))
-        (found (levelOf level) (keyOf (levelOf level) key)
+        (found bgf (levelOf level) (keyOf (levelOf level) key)
         (mul (levelOf level .r) (bits 8 (take (polyBytes (levelOf level)) (now (ciphertext .entry)))) (keyOf (levelOf level) key .half0)))) ⌝ }
 {
     let n = size::polynomial(level);

@@ -14,6 +14,7 @@ use Rattle.ring.specs.Polynomials.{hasInverse}
 use Rattle.ring.proofs.Levels.{sizes}
 use Rattle.exchange.specs.Fits.{FromKeyMaking, Bytes}
 use Rattle.exchange.specs.Opening.{opened}
+use Rattle.exchange.specs.decoder.Decoder.{bgf}
 use Rattle.exchange.specs.Promises.{make-key-says, wrap-says, open-says}
 use Rattle.exchange.specs.Scheme.{hashK, h0Of}
 use Rattle.both_ends.specs.BothEnds.{privateOf, sentTo}
@@ -137,7 +138,7 @@ opens : (c : tie.After-open) →
     let given = wrap .before .before .before .before .before .before .before .before .before .before .before .before .before .before .before .before .before .before .before .before .args in
     let l = levelOf (given .level) in
     let sent = sentTo l (given .seed .now) (given .message .now) in
-    (c .«open» .result ≡ 0) × (c .«open» .last .1 .1 .1 .0 ≡ opened l (privateOf l (given .seed .now)) sent)
+    (c .«open» .result ≡ 0) × (c .«open» .last .1 .1 .1 .0 ≡ opened bgf l (privateOf l (given .seed .now)) sent)
 opens c =
     let wrap = c .before .before .before .before .before .before .before in
     let tested = wrap .before .before .before .before in

@@ -16,7 +16,7 @@ use Rattle.ring.specs.Bytes.{number, listOf, bytesOf, byteLength, padSet}
 use Rattle.ring.specs.Levels.{levelOf, polyBytes, privateBytes}
 use Rattle.ring.specs.Polynomials.{Poly, InRing}
 use Rattle.ring.proofs.Layouts.{pad-rule}
-use Rattle.exchange.specs.decoder.Decoder.{nothing, failed, found, Pair}
+use Rattle.exchange.specs.decoder.Decoder.{Pair, nothing, bgf, failed, found}
 use Rattle.exchange.specs.decoder.PrivateKey.{secret, goodKey}
 use Rattle.exchange.specs.Promises.{differs, decode-says}
 use Rattle.exchange.specs.inner.Working.{keyOf}
@@ -158,22 +158,22 @@ key-is c = read-secret _ (c .read-key .result) _ (c .read-key .ensures)
 failed-is : (c : tie.After-find) →
     let given = c .before .before .before .before .before .before .before .before .before .before .before .before .before .before .before .before .before .args in
     let l = levelOf (given .level) in
-    c .find .result .failed ≡ failed l (secret l (given .private-key .now)) (bits 8 (given .syndrome .now))
+    c .find .result .failed ≡ failed bgf l (secret l (given .private-key .now)) (bits 8 (given .syndrome .now))
 failed-is c =
     let l = levelOf (c .before .before .before .before .before .before .before .before .before .before .before .before .before .before .before .before .before .args .level) in
-    c .find .ensures .0 ∙ ap₂ (failed l) (key-is (c .before .before .before .before)) (c .before .load .ensures)
+    c .find .ensures .0 ∙ ap₂ (failed bgf l) (key-is (c .before .before .before .before)) (c .before .load .ensures)
 
 found-is : (c : tie.After-find) →
     let given = c .before .before .before .before .before .before .before .before .before .before .before .before .before .before .before .before .before .args in
     let l = levelOf (given .level) in
-    let e = found l (secret l (given .private-key .now)) (bits 8 (given .syndrome .now)) in
+    let e = found bgf l (secret l (given .private-key .now)) (bits 8 (given .syndrome .now)) in
     (bits 64 (c .find .result .e0) ≡ e .half0) × (bits 64 (c .find .result .e1) ≡ e .half1)
 found-is c =
     let l = levelOf (c .before .before .before .before .before .before .before .before .before .before .before .before .before .before .before .before .before .args .level) in
     let h = key-is (c .before .before .before .before) in
     let s = c .before .load .ensures in (
-      c .find .ensures .1 ∙ ap₂ (λ (h : Pair) (s : Poly). found l h s .half0) h s,
-      c .find .ensures .2 ∙ ap₂ (λ (h : Pair) (s : Poly). found l h s .half1) h s,
+      c .find .ensures .1 ∙ ap₂ (λ (h : Pair) (s : Poly). found bgf l h s .half0) h s,
+      c .find .ensures .2 ∙ ap₂ (λ (h : Pair) (s : Poly). found bgf l h s .half1) h s,
     )
 
 -- the bytes of no error
@@ -204,7 +204,7 @@ returns-5 c =
     let padded = good .before .before .before in
     let long = padded .before .before .before in
     let level = long .before .before .before in
-    let e = found-none _ _ _ (sym (failed-is made) ∙ c .if5 .taken) in
+    let e = found-none bgf _ _ _ (sym (failed-is made) ∙ c .if5 .taken) in
     let value = found-is made in
     rw (
       ← level .before .known .ensures,
@@ -231,7 +231,7 @@ returns-6 c =
     let padded = good .before .before .before in
     let long = padded .before .before .before in
     let level = long .before .before .before in
-    let e = found-of _ _ _ (sym (failed-is made) ∙ c .if5 .left) in
+    let e = found-of bgf _ _ _ (sym (failed-is made) ∙ c .if5 .left) in
     let value = found-is made in
     rw (
       ← level .before .known .ensures,

@@ -15,7 +15,7 @@ use Rattle.ring.specs.Polynomials.{Poly, InRing, flip, add, weight, support}
 use Rattle.ring.proofs.Bools.{both-true}
 use Rattle.ring.proofs.Levels.{each, sizes}
 use Rattle.ring.proofs.Ring
-use Rattle.exchange.specs.decoder.Decoder.{counter, threshold, nothing, residual, reaching, among, without, flipped, black, gray, round, maskedStep, step, after, decoded, failed, found, Pair}
+use Rattle.exchange.specs.decoder.Decoder.{Decoder, Pair, counter, threshold, nothing, residual, passing, reaching, among, without, flipped, black, gray, round, maskedStep, step, after, bgf, failed, found}
 use Rattle.exchange.specs.decoder.PrivateKey.{positions0, positions1, secret, risingFrom, goodKey}
 use Rattle.exchange.specs.inner.Working.{keyOf, Good, Counted}
 use Rattle.exchange.specs.declared.decoder.private_key
@@ -31,9 +31,13 @@ InPair r e = InRing r (e .half0) × InRing r (e .half1)
 pub below-in : (r : ℕ) (f : ℕ → Bool) → InRing r (λ j. ltb j r && f j)
 below-in r f k past = rw (le-ltb k r past)
 
+pub passing-in : (r : ℕ) (h : Pair) (res : Poly) (test : ℕ → Bool) → InPair r (passing r h res test)
+unfolding passing
+passing-in r h res test = (below-in r _, below-in r _)
+
 pub reaching-in : (r : ℕ) (h : Pair) (res : Poly) (bound : ℕ) → InPair r (reaching r h res bound)
 unfolding reaching
-reaching-in r h res bound = (below-in r _, below-in r _)
+reaching-in r h res bound = passing-in r h res (leb bound)
 
 pub flipped-in : (r : ℕ) (e f : Pair) → InPair r e → InPair r f → InPair r (flipped e f)
 unfolding flipped
@@ -58,31 +62,38 @@ module _ (l : Level) (h : Pair) (s : Poly) where
   step-in zero e he = masked-in _ _ (masked-in _ _ (round-in e he))
   step-in (suc i) e he = round-in e he
 
-  pub after-in : (n : ℕ) → InPair (l .r) (after l h s n)
-  unfolding after nothing
-  after-in zero = (λ k past. refl, λ k past. refl)
-  after-in (suc n) = step-in n _ (after-in n)
+-- rounds that stay in the ring, and a decoder that does
+pub after-in : (r : ℕ) (round : ℕ → Pair → Pair) → ((i : ℕ) (e : Pair) → InPair r e → InPair r (round i e)) → (n : ℕ) → InPair r (after round n)
+unfolding after nothing
+after-in r round stays zero = (λ k past. refl, λ k past. refl)
+after-in r round stays (suc n) = stays n _ (after-in r round stays n)
 
-  pub decoded-in : InPair (l .r) (decoded l h s)
-  unfolding decoded
-  decoded-in = after-in 5
+abbrev pub Stays : Decoder → Level → Type 0
+Stays decoder l = (h : Pair) (s : Poly) → InPair (l .r) (decoder l h s)
 
-  pub found-in : InPair (l .r) (found l h s)
-  unfolding found nothing
-  found-in = go (failed l h s)
-    where
-      go : (t : Bool) → InPair (l .r) (elim t [ true ↦ nothing | false ↦ decoded l h s ])
-      go true = (λ k past. refl, λ k past. refl)
-      go false = decoded-in
+pub rounds-in : (l : Level) (h : Pair) (s : Poly) (n : ℕ) → InPair (l .r) (after (step l h s) n)
+rounds-in l h s = after-in (l .r) (step l h s) (step-in l h s)
+
+pub bgf-in : (l : Level) → Stays bgf l
+unfolding bgf
+bgf-in l h s = rounds-in l h s 5
+
+pub found-in : (decoder : Decoder) (l : Level) → Stays decoder l → (h : Pair) (s : Poly) → InPair (l .r) (found decoder l h s)
+unfolding found nothing
+found-in decoder l stays h s = go (failed decoder l h s)
+  where
+    go : (t : Bool) → InPair (l .r) (elim t [ true ↦ nothing | false ↦ decoder l h s ])
+    go true = (λ k past. refl, λ k past. refl)
+    go false = stays h s
 
 -- what is found, by whether a residual is left
-pub found-of : (l : Level) (h : Pair) (s : Poly) → failed l h s ≡ false → found l h s ≡ decoded l h s
+pub found-of : (decoder : Decoder) (l : Level) (h : Pair) (s : Poly) → failed decoder l h s ≡ false → found decoder l h s ≡ decoder l h s
 unfolding found
-found-of l h s e = rw (e, found)
+found-of decoder l h s e = rw (e, found)
 
-pub found-none : (l : Level) (h : Pair) (s : Poly) → failed l h s ≡ true → found l h s ≡ nothing
+pub found-none : (decoder : Decoder) (l : Level) (h : Pair) (s : Poly) → failed decoder l h s ≡ true → found decoder l h s ≡ nothing
 unfolding found
-found-none l h s e = rw (e, found)
+found-none decoder l h s e = rw (e, found)
 
 pub inside-by : (r : ℕ) {e f : Pair} → e ≡ f → InPair r f → InPair r e
 inside-by r same inside = rw same inside
@@ -91,9 +102,9 @@ pub residual-in : (r : ℕ) → 0 < r → (h : Pair) {s : Poly} (e : Pair) → I
 unfolding residual
 residual-in r pos h e hs = Ring.add-in r hs (Ring.add-in r (Ring.mul-in r pos _ _) (Ring.mul-in r pos _ _))
 
-pub after-more : (l : Level) (h : Pair) (s : Poly) (n : ℕ) → after l h s (n + 1) ≡ step l h s n (after l h s n)
+pub after-more : (round : ℕ → Pair → Pair) (n : ℕ) → after round (n + 1) ≡ round n (after round n)
 unfolding after
-after-more l h s n = ap (after l h s) (add-one n)
+after-more round n = ap (after round) (add-one n)
 
 -- "In round 1 only"
 module _ (l : Level) (h : Pair) (s : Poly) (e : Pair) where
@@ -141,7 +152,7 @@ marked r h res count bound counted = fun-ext (λ j. go j (decLt j r))
 
 pub reached : (r : ℕ) (h : Pair) (res : Poly) (c0 c1 : List ℕ) (bound : ℕ) {m : Pair} → Counted r (h .half0) res c0 × Counted r (h .half1) res c1
     → (m .half0 ≡ (λ j. ltb j r && leb bound (getD c0 j 0))) × (m .half1 ≡ (λ j. ltb j r && leb bound (getD c1 j 0))) → m ≡ reaching r h res bound
-unfolding reaching
+unfolding reaching passing
 reached r h res c0 c1 bound counted is =
     pair-path (is .0 ∙ marked r (h .half0) res c0 bound (counted .0)) (is .1 ∙ marked r (h .half1) res c1 bound (counted .1))
 

@@ -16,7 +16,7 @@ use Rattle.ring.specs.Polynomials.{InRing, mul}
 use Rattle.ring.proofs.Layouts.{pad-rule}
 use Rattle.exchange.specs.decoder.PrivateKey.{secret, sigma, goodKey}
 use Rattle.exchange.specs.Opening.{syndromeOf, keyFor, opened}
-use Rattle.exchange.specs.decoder.Decoder.{found, Pair}
+use Rattle.exchange.specs.decoder.Decoder.{bgf, found, Pair}
 use Rattle.exchange.specs.Promises.{differs, open-says}
 use Rattle.exchange.specs.inner.Working.{keyOf}
 use Rattle.ring.proofs.Bools.{both-false}
@@ -203,7 +203,7 @@ returns-5 c =
     )
     (ap₂ (λ (r : ℕ) (key : List ℕ). gives r (key ∷ [])) (written .write .ensures .0)
     (written .write .ensures .1
-    ∙ ap₂ (λ (last : List ℕ) (h : Pair). keyFor l last (given .ciphertext .now) (found l h (mul (l .r) c0 (h .half0)))) (sigma-is weighed) (key-is (good .before .before))))
+    ∙ ap₂ (λ (last : List ℕ) (h : Pair). keyFor l last (given .ciphertext .now) (found bgf l h (mul (l .r) c0 (h .half0)))) (sigma-is weighed) (key-is (good .before .before))))
 
 pub open-spec : {M : Type 1} → statement M
 open-spec =

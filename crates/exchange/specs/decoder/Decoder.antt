@@ -26,13 +26,16 @@ threshold l S = max ((l .slope * S + l .offset) / l .divisor) (l .floor)
 unfoldable pub nothing : Pair
 nothing = record { half0 = λ k. false; half1 = λ k. false }
 
--- the bits below r of both halves whose counter reaches a bound
-unfoldable pub reaching : ℕ → Pair → Poly → ℕ → Pair
-reaching r h res bound =
+-- the bits below r of both halves whose counter passes a test, and those whose counter reaches a bound
+unfoldable pub passing : ℕ → Pair → Poly → (ℕ → Bool) → Pair
+passing r h res test =
     record {
-      half0 = λ j. ltb j r && leb bound (counter r (h .half0) res j);
-      half1 = λ j. ltb j r && leb bound (counter r (h .half1) res j);
+      half0 = λ j. ltb j r && test (counter r (h .half0) res j);
+      half1 = λ j. ltb j r && test (counter r (h .half1) res j);
     }
+
+unfoldable pub reaching : ℕ → Pair → Poly → ℕ → Pair
+reaching r h res bound = passing r h res (leb bound)
 
 -- the bits of the first that the second has too, or that it has not
 unfoldable pub among : Pair → Pair → Pair
@@ -69,19 +72,24 @@ module _ (l : Level) (h : Pair) (s : Poly) where
   step zero e = maskedStep (gray e) (maskedStep (black e) (round e))
   step (suc i) e = round e
 
-  -- "Start with e = 0"; the error after n rounds
-  unfoldable pub after : ℕ → Pair
-  after zero = nothing
-  after (suc n) = step n (after n)
+-- "Start with e = 0"; the error after n rounds, of which `round i` is round i + 1
+unfoldable pub after : (ℕ → Pair → Pair) → ℕ → Pair
+after round zero = nothing
+after round (suc n) = round n (after round n)
 
-  -- "five rounds"
-  unfoldable pub decoded : Pair
-  decoded = after 5
+-- a decoder: from a private key and a syndrome the error after its last round
+abbrev pub Decoder : Type 0
+Decoder = Level → Pair → Poly → Pair
 
+-- "five rounds"
+unfoldable pub bgf : Decoder
+bgf l h s = after (step l h s) 5
+
+module _ (decoder : Decoder) (l : Level) (h : Pair) (s : Poly) where
   -- "After five rounds: residual 0 gives e, anything else is a failure"
   unfoldable pub failed : Bool
-  failed = ltb 0 (weight (l .r) (residual (l .r) h s decoded))
+  failed = ltb 0 (weight (l .r) (residual (l .r) h s (decoder l h s)))
 
   -- opening's "On failure let e' = (0, 0)"
   unfoldable pub found : Pair
-  found = elim failed [ true ↦ nothing | false ↦ decoded ]
+  found = elim failed [ true ↦ nothing | false ↦ decoder l h s ]

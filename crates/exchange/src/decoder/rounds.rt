@@ -147,7 +147,7 @@ fn step(level: u32, key: Key, s: [u64; WORDS], e: Halves, i: usize) -> Halves
 // All five rounds run, whatever is left.
 fn rounds(level: u32, key: Key, s: [u64; WORDS]) -> Halves
     requires { ⌜ Good (levelOf level) key ⌝ ∗ ⌜ InRing (levelOf level .r) (bits 64 s) ⌝ }
-    ensures { λ e. ⌜ pairOf e ≡ Decoder.decoded (levelOf level) (keyOf (levelOf level) key) (bits 64 s) ⌝ }
+    ensures { λ e. ⌜ pairOf e ≡ Decoder.bgf (levelOf level) (keyOf (levelOf level) key) (bits 64 s) ⌝ }
 {
     let mut e = nothing();
     let mut i = 0;
@@ -178,9 +178,9 @@ pub struct Found {
 // Whether a residual is left after five rounds, and what was found.
 pub fn find(level: u32, key: Key, s: [u64; WORDS]) -> Found
     requires { ⌜ Good (levelOf level) key ⌝ ∗ ⌜ InRing (levelOf level .r) (bits 64 s) ⌝ }
-    ensures { λ found. ⌜ (found .failed ≡ Decoder.failed (levelOf level) (keyOf (levelOf level) key) (bits 64 s))
-        × (bits 64 (found .e0) ≡ Decoder.found (levelOf level) (keyOf (levelOf level) key) (bits 64 s) .half0)
-        × (bits 64 (found .e1) ≡ Decoder.found (levelOf level) (keyOf (levelOf level) key) (bits 64 s) .half1) ⌝ }
+    ensures { λ found. ⌜ (found .failed ≡ Decoder.failed Decoder.bgf (levelOf level) (keyOf (levelOf level) key) (bits 64 s))
+        × (bits 64 (found .e0) ≡ Decoder.found Decoder.bgf (levelOf level) (keyOf (levelOf level) key) (bits 64 s) .half0)
+        × (bits 64 (found .e1) ≡ Decoder.found Decoder.bgf (levelOf level) (keyOf (levelOf level) key) (bits 64 s) .half1) ⌝ }
 {
     let e = rounds(level, key, s);
     let failed = 0 < ones(level, residual(level, key, s, e));

@@ -9,10 +9,10 @@ use Rattle.ring.specs.Levels.{levelOf, polyBytes}
 use Rattle.ring.specs.Polynomials.{Poly, mul}
 use Rattle.ring.proofs.Levels.{r-pos, sizes}
 use Rattle.ring.proofs.Ring.{mul-in}
-use Rattle.exchange.specs.decoder.Decoder.{found}
+use Rattle.exchange.specs.decoder.Decoder.{bgf, found}
 use Rattle.exchange.specs.Opening.{keyFor}
 use Rattle.exchange.specs.inner.Working.{keyOf}
-use Rattle.exchange.proofs.decoder.Laws.{pair-path, found-in}
+use Rattle.exchange.proofs.decoder.Laws.{pair-path, bgf-in, found-in}
 use Rattle.exchange.proofs.opening.write.Statement.{statement}
 use Rattle.exchange.proofs.opening.write.Tie as tie
 
@@ -45,7 +45,7 @@ write-session-key-requires c κs =
     let made = c .before .before .before in
     let start = made .before .before .before .before .before .before .before .before in
     let l = levelOf (start .args .level) in
-    let inside = found-in l (keyOf l (start .args .key)) (bits 64 (made .before .syndrome .result)) in
+    let inside = found-in bgf l (bgf-in l) (keyOf l (start .args .key)) (bits 64 (made .before .syndrome .result)) in
     (start .pre .0, (rw (made .find .ensures .1) (inside .0), rw (made .find .ensures .2) (inside .1)))
 
 returns : tie.Need-returns
@@ -59,7 +59,7 @@ returns c =
       written .write-session-key .ensures .0,
       written .write-session-key .ensures .1
           ∙ ap (keyFor l (given .sigma .now) (given .ciphertext .now))
-          (pair-path (made .find .ensures .1) (made .find .ensures .2) ∙ ap (found l h) s),
+          (pair-path (made .find .ensures .1) (made .find .ensures .2) ∙ ap (found bgf l h) s),
     )
 
 pub write-spec : {M : Type 1} → statement M

@@ -6,9 +6,9 @@ use Rattle.hashing.specs.Lists.{bits}
 use Rattle.ring.specs.Levels.{levelOf}
 use Rattle.ring.specs.Polynomials.{weight}
 use Rattle.ring.proofs.Levels.{r-pos}
-use Rattle.exchange.specs.decoder.Decoder.{Pair, residual, failed, found}
+use Rattle.exchange.specs.decoder.Decoder.{Pair, residual, bgf, failed, found}
 use Rattle.exchange.specs.inner.Working.{keyOf, pairOf, kept}
-use Rattle.exchange.proofs.decoder.Laws.{inside-by, decoded-in, residual-in}
+use Rattle.exchange.proofs.decoder.Laws.{inside-by, bgf-in, residual-in}
 use Rattle.exchange.proofs.decoder.rounds.find.Statement.{statement}
 use Rattle.exchange.proofs.decoder.rounds.find.Tie as tie
 
@@ -16,7 +16,7 @@ residual-requires : tie.Need-residual-requires
 residual-requires c κs =
     let start = c .before in
     let l = levelOf (start .args .level) in
-    (start .pre .0, (start .pre .1, inside-by (l .r) (c .rounds .ensures) (decoded-in l (keyOf l (start .args .key)) (bits 64 (start .args .s)))))
+    (start .pre .0, (start .pre .1, inside-by (l .r) (c .rounds .ensures) (bgf-in l (keyOf l (start .args .key)) (bits 64 (start .args .s)))))
 
 ones-requires : tie.Need-ones-requires
 ones-requires c κs =
@@ -32,7 +32,7 @@ returns c =
     let h = keyOf l (start .key) in
     let e = c .before .before .before .before .before .rounds .ensures in
     let left = c .before .before .before .before .residual .ensures ∙ ap (residual (l .r) h (bits 64 (start .s))) e in
-    let fails : ltb 0 (c .before .before .before .ones .result) ≡ failed l h (bits 64 (start .s)) =
+    let fails : ltb 0 (c .before .before .before .ones .result) ≡ failed bgf l h (bits 64 (start .s)) =
     ap (ltb 0) (c .before .before .before .ones .ensures ∙ ap (weight (l .r)) left) in
     let is = c .before .before .kept .ensures ∙ ap₂ kept fails e in
     (fails, ap (λ (p : Pair). p .half0) is, ap (λ (p : Pair). p .half1) is)

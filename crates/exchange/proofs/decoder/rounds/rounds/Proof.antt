@@ -4,14 +4,14 @@ use Prim.Native.Nat.{_-_, _≤_}
 use native.Mathlib.Omega.{arith}
 use Rattle.hashing.specs.Lists.{bits}
 use Rattle.ring.specs.Levels.{levelOf}
-use Rattle.exchange.specs.decoder.Decoder.{step, after, decoded}
+use Rattle.exchange.specs.decoder.Decoder.{step, after, bgf}
 use Rattle.exchange.specs.inner.Working.{keyOf, pairOf}
-use Rattle.exchange.proofs.decoder.Laws.{inside-by, after-in, after-more}
+use Rattle.exchange.proofs.decoder.Laws.{inside-by, rounds-in, after-more}
 use Rattle.exchange.proofs.decoder.rounds.rounds.Statement.{statement}
 use Rattle.exchange.proofs.decoder.rounds.rounds.Tie as tie
 
 abbrev Inv-loop : tie.InvT-loop
-Inv-loop level key s e₀ i₀ e i = (i ≤ 5) × (pairOf e ≡ after (levelOf level) (keyOf (levelOf level) key) (bits 64 s) i)
+Inv-loop level key s e₀ i₀ e i = (i ≤ 5) × (pairOf e ≡ after (step (levelOf level) (keyOf (levelOf level) key) (bits 64 s)) i)
 
 abbrev μ-loop : tie.MeasureT-loop
 μ-loop level key s e₀ i₀ e i = 5 - i
@@ -24,7 +24,7 @@ step-requires : tie.Need-step-requires Inv-loop μ-loop
 step-requires c κs =
     let start = c .before .before .before in
     let l = levelOf (start .args .level) in
-    (start .pre .0, (start .pre .1, inside-by (l .r) (c .before .loop .inv .1) (after-in l (keyOf l (start .args .key)) (bits 64 (start .args .s)) (c .before .loop .i))))
+    (start .pre .0, (start .pre .1, inside-by (l .r) (c .before .loop .inv .1) (rounds-in l (keyOf l (start .args .key)) (bits 64 (start .args .s)) (c .before .loop .i))))
 
 loop-again : tie.Need-loop-again Inv-loop μ-loop
 loop-again c =
@@ -33,15 +33,15 @@ loop-again c =
     let h = keyOf l (start .key) in
     let s = bits 64 (start .s) in
     let turn = c .before .before .loop in
-    (omega arith, c .step .ensures ∙ ap (step l h s (turn .i)) (turn .inv .1) ∙ sym (after-more l h s (turn .i)))
+    (omega arith, c .step .ensures ∙ ap (step l h s (turn .i)) (turn .inv .1) ∙ sym (after-more (step l h s) (turn .i)))
 
 returns : tie.Need-returns Inv-loop μ-loop
-unfolding decoded
+unfolding bgf
 returns c =
     let start = c .before .before .before .args in
     let l = levelOf (start .level) in
     let all : c .before .loop .i ≡ 5 = omega arith in
-    c .before .loop .inv .1 ∙ ap (after l (keyOf l (start .key)) (bits 64 (start .s))) all
+    c .before .loop .inv .1 ∙ ap (after (step l (keyOf l (start .key)) (bits 64 (start .s)))) all
 
 pub rounds-spec : {M : Type 1} → statement M
 rounds-spec =
