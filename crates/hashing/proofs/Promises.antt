@@ -3,7 +3,7 @@ use mathlib.Core.Path.{_≡_}
 use mathlib.Core.List.{List}
 use Prim.Native.Nat.{ℕ}
 use Rattle.hashing.specs.Answers.{Outcome}
-use Rattle.hashing.specs.Hashes.{shake256-says, sha3-384-says}
+use Rattle.hashing.specs.Promises.{shake256-says, sha3-384-says}
 use Rattle.hashing.proofs.Answers.{just-one}
 
 pub shake256-one : (M : List ℕ) (room : ℕ) {one other : Outcome}

@@ -1,6 +1,6 @@
 pub mod Answers
-pub mod Hashes
 pub mod Keccak
 pub mod Lists
-pub mod Running
+pub mod Promises
 pub mod Sponge
+pub mod inner

@@ -7,7 +7,7 @@ ghost use mathlib.Core.Path.{_≡_};
 ghost use mathlib.Core.List.{[], _∷_};
 ghost use lib.ListN.{length};
 ghost use Rattle.hashing.specs.Answers.Outcome.{gives};
-ghost use Rattle.hashing.specs.Hashes.{shake256-says, sha3-384-says};
+ghost use Rattle.hashing.specs.Promises.{shake256-says, sha3-384-says};
 
 pub fn shake256(message: &[u8], out: &mut [u8]) -> u32
     ensures { λ r. ⌜ gives r (now (out .exit) ∷ []) ≡ shake256-says (now (message .entry)) (length (now (out .entry))) ⌝ }

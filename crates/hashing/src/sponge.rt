@@ -4,7 +4,7 @@ use crate::keccak::permute;
 ghost use mathlib.Core.Path.{_≡_};
 ghost use Prim.Native.Nat.{_*_, _/_, _%_, _^_, _≤_, _<_};
 ghost use lib.ListN.{length};
-ghost use Rattle.hashing.specs.Running.{Starts, Absorbs, Finishes, Squeezes};
+ghost use Rattle.hashing.specs.inner.Running.{Starts, Absorbs, Finishes, Squeezes};
 ghost use Rattle.hashing.specs.Sponge.{sponge};
 
 // The rates in bytes, and the suffixes with the padding's first bit: 1111 and 1, 01 and 1, the lowest bit first.

@@ -2,7 +2,7 @@
 use borrow.Author.Needs.{needs}
 use borrow.Author.Tests.{eq-eqb, ne-eqb}
 use Rattle.hashing.specs.Answers.{firstOf, content, settle}
-use Rattle.hashing.specs.Hashes.{sha3-384-says}
+use Rattle.hashing.specs.Promises.{sha3-384-says}
 use Rattle.hashing.specs.Sponge.{sha3-384}
 use Rattle.hashing.proofs.sha3_384.Statement.{statement}
 use Rattle.hashing.proofs.sha3_384.Tie as tie

@@ -1,7 +1,7 @@
 -- SHAKE256 is the sponge's digest, and nothing is refused.
 use borrow.Author.Needs.{needs}
 use Rattle.hashing.specs.Answers.{firstOf, content, settle}
-use Rattle.hashing.specs.Hashes.{shake256-says}
+use Rattle.hashing.specs.Promises.{shake256-says}
 use Rattle.hashing.specs.Sponge.{shake256}
 use Rattle.hashing.proofs.shake256.Statement.{statement}
 use Rattle.hashing.proofs.shake256.Tie as tie

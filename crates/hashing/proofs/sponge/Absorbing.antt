@@ -9,7 +9,7 @@ use lib.ListN.{length, drop, length-append, length-take, length-drop, drop-of-le
 use lib.Seq.{take-nil, take-all, take-append-le, drop-append-le}
 use Rattle.hashing.specs.declared.sponge.Sponge.{Sponge}
 use Rattle.hashing.specs.Keccak.{keccakF}
-use Rattle.hashing.specs.Running.{running}
+use Rattle.hashing.specs.inner.Running.{running}
 use Rattle.hashing.specs.Sponge.{addByte, addBytes, block, absorbed}
 
 -- a hash by its fields

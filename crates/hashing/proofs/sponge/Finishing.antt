@@ -10,7 +10,7 @@ use lib.ListN.{length, getD, replicate, length-append, length-set, length-replic
 use lib.Seq.{set-getD, set-set, getD-set-same}
 use Rattle.hashing.specs.declared.sponge.Sponge.{Sponge}
 use Rattle.hashing.specs.Keccak.{keccakF}
-use Rattle.hashing.specs.Running.{running, drawn}
+use Rattle.hashing.specs.inner.Running.{running, drawn}
 use Rattle.hashing.specs.Sponge.{addByte, addBytes, padding, padded, block, absorbed, soaked}
 use Rattle.hashing.proofs.keccak.Laws.{length-keccakF}
 use Rattle.hashing.proofs.Words.{xor-assoc, xor-scaled}

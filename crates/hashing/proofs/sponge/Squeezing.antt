@@ -12,7 +12,7 @@ use lib.ListN.{length, getD, take, drop, List·getD-eq-default}
 use Rattle.hashing.specs.declared.sponge.Sponge.{Sponge}
 use Rattle.hashing.specs.Keccak.{keccakF}
 use Rattle.hashing.specs.Lists.{tab}
-use Rattle.hashing.specs.Running.{drawn}
+use Rattle.hashing.specs.inner.Running.{drawn}
 use Rattle.hashing.specs.Sponge.{byteOf, soaked, permuted, squeezed, sponge}
 use Rattle.hashing.proofs.Lists.{tab-ext, length-tab, getD-tab}
 use Rattle.hashing.proofs.Lists.{tab-append, take-tab, drop-tab}

@@ -8,7 +8,7 @@ use native.Mathlib.Omega.{arith}
 use lib.ListN.{length, take, getD}
 use lib.Seq.{take-suc, take-all}
 use borrow.Author.Needs.{needs}
-use Rattle.hashing.specs.Running.{running}
+use Rattle.hashing.specs.inner.Running.{running}
 use Rattle.hashing.specs.Sponge.{addByte}
 use Rattle.hashing.proofs.sponge.Absorbing.{held, byte-within, byte-full}
 use Rattle.hashing.proofs.sponge.absorb.Statement.{statement}

@@ -8,7 +8,7 @@ use native.Mathlib.Omega.{arith}
 use lib.ListN.{length, drop, length-set}
 use borrow.Author.Needs.{needs}
 use Rattle.hashing.specs.Lists.{tab}
-use Rattle.hashing.specs.Running.{drawn}
+use Rattle.hashing.specs.inner.Running.{drawn}
 use Rattle.hashing.specs.Sponge.{byteOf}
 use Rattle.hashing.proofs.Lists.{filled-none, filled-more, filled-all}
 use Rattle.hashing.proofs.sponge.Absorbing.{held}

@@ -3,7 +3,7 @@ use mathlib.Core.Path.{refl}
 use Prim.Native.Nat.{ℕ, _*_}
 use native.Mathlib.Nat.{zero-div, zero-mod}
 use lib.Seq.{drop-nil, take-nil}
-use Rattle.hashing.specs.Running.{running}
+use Rattle.hashing.specs.inner.Running.{running}
 use Rattle.hashing.specs.Sponge.{absorbed, addBytes, block}
 use Rattle.hashing.proofs.sponge.start.Statement.{statement}
 use Rattle.hashing.proofs.sponge.start.Tie as tie
