@@ -2,14 +2,12 @@
 use mathlib.Core.Path.{_≡_}
 use mathlib.Core.List.{List}
 use Prim.Native.Nat.{ℕ}
-use Rattle.hashing.specs.Answers.{Outcome}
-use Rattle.hashing.specs.Promises.{shake256-says, sha3-384-says}
-use Rattle.hashing.proofs.Answers.{just-one}
+use Rattle.hashing.specs.Promises.{Shake256Promise, Sha3-384Promise}
+use Rattle.hashing.proofs.Answers.{one-output}
 
-pub shake256-one : (M : List ℕ) (room : ℕ) {one other : Outcome}
-    → one ≡ shake256-says M room → other ≡ shake256-says M room → one ≡ other
-shake256-one M = just-one (shake256-says M)
+module _ (M : List ℕ) (room : ℕ) {r r′ : ℕ} {out out′ : List ℕ} where
+  pub shake256-just-one : Shake256Promise M room r out → Shake256Promise M room r′ out′ → (r ≡ r′) × (out ≡ out′)
+  shake256-just-one = one-output
 
-pub sha3-384-one : (M : List ℕ) (room : ℕ) {one other : Outcome}
-    → one ≡ sha3-384-says M room → other ≡ sha3-384-says M room → one ≡ other
-sha3-384-one M = just-one (sha3-384-says M)
+  pub sha3-384-just-one : Sha3-384Promise M room r out → Sha3-384Promise M room r′ out′ → (r ≡ r′) × (out ≡ out′)
+  sha3-384-just-one = one-output

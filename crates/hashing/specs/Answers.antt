@@ -1,14 +1,19 @@
 -- What a public entry gives back, in document 01's words: one number, and the final content of each output.
 -- Assumes nothing.
-use mathlib.Core.Bool.{Bool, true, false}
+use mathlib.Core.Bool.{Bool, true, false, not}
 use mathlib.Core.List.{List, [], _∷_, map}
 use Prim.Native.Nat.{ℕ, zero, suc}
+use lib.Dec.{eqb}
 use lib.ListN.{replicate}
 
 -- a number of document 01's table, and whether it applies
 pub record Reason : Type 0 where
   pub applies : Bool
   pub number : ℕ
+
+-- "a wrong length", of an input or an output
+unfoldable pub differs : ℕ → ℕ → Bool
+differs a b = not (eqb a b)
 
 -- an output buffer: its actual length, and what it is to hold if nothing applies
 pub record Output : Type 0 where
@@ -25,9 +30,12 @@ firstOf [] = 0
 firstOf (reason ∷ rest) = elim (reason .applies) [ true ↦ reason .number | false ↦ firstOf rest ]
 
 -- "Each refusal fills all output buffers, at their actual lengths, with zero"
+abbrev pub zeros : Output → List ℕ
+zeros output = replicate (output .room) 0
+
 unfoldable pub content : ℕ → Output → List ℕ
 content zero output = output .value
-content (suc refusal) output = replicate (output .room) 0
+content (suc refusal) output = zeros output
 
 unfoldable pub settle : List Reason → List Output → Outcome
 settle reasons outputs = gives (firstOf reasons) (map (content (firstOf reasons)) outputs)
