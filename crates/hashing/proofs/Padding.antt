@@ -69,7 +69,7 @@ module _ (suffix : List Bool) (byte : ℕ) (few : length suffix ≤ 6)
       let all : 8 * suc q + (6 - length suffix) ≡ 7 - length suffix + (8 * q + 7) = omega arith in
       rw (bitsOf-append (replicate q 0) (128 ∷ []), bitsOf-zeros q, opens, last, all) (runs suffix (7 - length suffix) (8 * q) 7)
 
-  padded-bits : (rate : ℕ) → 0 < rate → (M : List ℕ) → bitsOf (padded rate byte M)
+  pub padded-bits : (rate : ℕ) → 0 < rate → (M : List ℕ) → bitsOf (padded rate byte M)
       ≡ (bitsOf M ++ suffix) ++ pad10*1 (8 * rate) (length (bitsOf M ++ suffix))
   unfolding padded pad10*1
   padded-bits rate pos M =

@@ -13,7 +13,7 @@ use Rattle.hashing.specs.declared.sponge.Sponge.{Sponge}
 use Rattle.hashing.specs.Keccak.{keccakF}
 use Rattle.hashing.specs.Lists.{tab}
 use Rattle.hashing.specs.inner.Running.{drawn}
-use Rattle.hashing.specs.Sponge.{byteOf, soaked, permuted, squeezed, sponge}
+use Rattle.hashing.specs.Sponge.{byteOf, soaked, permuted, squeezed, sponge, shake256, sha3-384}
 use Rattle.hashing.proofs.Lists.{tab-ext, length-tab, getD-tab}
 use Rattle.hashing.proofs.Lists.{tab-append, take-tab, drop-tab}
 use Rattle.hashing.proofs.sponge.Absorbing.{held}
@@ -47,7 +47,10 @@ module _ (rate : ℕ) (pos : 0 < rate) where
       let enough : n ≤ blocks * rate = omega (arith, div-add-mod' (n + rate - 1) rate, mod-lt (n + rate - 1) pos) in
       ap (take n) (squeezed-at S blocks) ∙ take-tab n (blocks * rate) (byteAt rate S) enough
 
-  -- parts of an output, for the callers too: its first bytes, those that follow the first n, and that they are bytes
+  -- of an output, for the callers too: its length, its first bytes, those that follow the first n, and that they are bytes
+  pub sponge-length : (suffix : ℕ) (M : List ℕ) (n : ℕ) → length (sponge rate suffix M n) ≡ n
+  sponge-length suffix M n = rw (sponge-at suffix M n) (length-tab n (byteAt rate (soaked rate suffix M)))
+
   pub sponge-first : (suffix : ℕ) (M : List ℕ) (n m : ℕ) → n ≤ m → take n (sponge rate suffix M m) ≡ sponge rate suffix M n
   sponge-first suffix M n m h = rw (sponge-at suffix M m, sponge-at suffix M n) (take-tab n m (byteAt rate (soaked rate suffix M)) h)
 
@@ -99,3 +102,12 @@ module _ (rate suffix : ℕ) (M : List ℕ) (n : ℕ) {s : Sponge} (at-hand : s 
   pub ready-drawn : held (s .lanes) (s .place + 1) ≡ drawn rate suffix M (n + 1)
   unfolding drawn
   ready-drawn = rw (at-hand, add-one n, add-one (n % rate))
+
+-- the two hashes
+pub shake256-length : (M : List ℕ) (n : ℕ) → length (shake256 M n) ≡ n
+unfolding shake256
+shake256-length = sponge-length 136 (lit< tt) 0x1f
+
+pub sha3-384-length : (M : List ℕ) → length (sha3-384 M) ≡ 48
+unfolding sha3-384
+sha3-384-length M = sponge-length 104 (lit< tt) 0x06 M 48
