@@ -35,16 +35,16 @@ pub top-one : (u : ℕ) → 0 < u → u / 2 ^ top u ≡ 1
 unfolding top
 top-one u some = halvings-one u u some (le-refl u)
 
--- with each digit of u that is read the length has one digit more of u
-pub next-length : (r : ℕ) (a : Poly) (u n : ℕ) (e : Rung) → e .length ≡ u / 2 ^ suc n
-    → longer r a (bitAt u n) (doubled r e) .length ≡ u / 2 ^ n
+-- with each digit of u that is read the span has one digit more of u
+pub next-span : (r : ℕ) (a : Poly) (u n : ℕ) (e : Rung) → e .span ≡ u / 2 ^ suc n
+    → longer r a (bitAt u n) (doubled r e) .span ≡ u / 2 ^ n
 unfolding longer doubled
-next-length r a u n e l =
-    rw (step-length (bitAt u n), bit-bitAt u n, l, ← add-one n, ← shr-shr u n 1) (omega arith)
+next-span r a u n e l =
+    rw (step-span (bitAt u n), bit-bitAt u n, l, ← add-one n, ← shr-shr u n 1) (omega arith)
   where
-    step-length : (digit : Bool) → longer r a digit (doubled r e) .length ≡ e .length + e .length + bit digit
-    step-length true = refl
-    step-length false = sym (add-zero (e .length + e .length))
+    step-span : (digit : Bool) → longer r a digit (doubled r e) .span ≡ e .span + e .span + bit digit
+    step-span true = refl
+    step-span false = sym (add-zero (e .span + e .span))
 
 module _ (r : ℕ) (pos : 0 < r) {a : Poly} (ha : InRing r a) where
   pub double-rung : (k : ℕ) → mul r (spread r (2 ^ k) (pow r a (2 ^ k - 1))) (pow r a (2 ^ k - 1)) ≡ pow r a (2 ^ (k + k) - 1)
@@ -55,23 +55,23 @@ module _ (r : ℕ) (pos : 0 < r) {a : Poly} (ha : InRing r a) where
       ap (mul r (spread r 2 (pow r a (2 ^ k - 1)))) (sym (Powers.pow-self r pos ha)) ∙ sym (Inverses.ones-add r pos a k 1)
 
   Holds : Rung → Type 0
-  Holds e = e .value ≡ pow r a (2 ^ e .length - 1)
+  Holds e = e .value ≡ pow r a (2 ^ e .span - 1)
 
   step-holds : (digit : Bool) (e : Rung) → Holds e → Holds (longer r a digit (doubled r e))
   unfolding Holds longer doubled
-  step-holds true e h = rw (h, double-rung (e .length)) (longer-rung (e .length + e .length))
-  step-holds false e h = rw h (double-rung (e .length))
+  step-holds true e h = rw (h, double-rung (e .span)) (longer-rung (e .span + e .span))
+  step-holds false e h = rw h (double-rung (e .span))
 
-  climb-holds : (u n : ℕ) (e : Rung) → Holds e → e .length ≡ u / 2 ^ n → climb r a e (digits n u) .value ≡ pow r a (2 ^ u - 1)
+  climb-holds : (u n : ℕ) (e : Rung) → Holds e → e .span ≡ u / 2 ^ n → climb r a e (digits n u) .value ≡ pow r a (2 ^ u - 1)
   unfolding Holds climb digits
   climb-holds u zero e h l = rw (h, l, div-one u)
   climb-holds u (suc n) e h l =
-      climb-holds u n (longer r a (bitAt u n) (doubled r e)) (step-holds (bitAt u n) e h) (next-length r a u n e l)
+      climb-holds u n (longer r a (bitAt u n) (doubled r e)) (step-holds (bitAt u n) e h) (next-span r a u n e l)
 
   pub chain-is : 2 < r → chain r a ≡ Inverses.candidate r a
   unfolding chain Holds
   chain-is big =
       let u : ℕ = r - 2 in
       ap (spread r 2)
-      (climb-holds u (top u) (record { value = a; length = 1 }) (sym (Powers.pow-self r pos ha)) (sym (top-one u (omega arith))))
+      (climb-holds u (top u) (record { value = a; span = 1 }) (sym (Powers.pow-self r pos ha)) (sym (top-one u (omega arith))))
       ∙ Inverses.ones-end r pos a (omega arith)

@@ -9,7 +9,7 @@ use native.Mathlib.Omega.{arith}
 use borrow.Author.Tests.{le-leb, lt-leb, eq-eqb, ne-eqb}
 use lib.Dec.{leb, eqb}
 use Rattle.ring.specs.Polynomials.{Poly, InRing, flip, both, parity, over, power, mul}
-use Rattle.ring.specs.Wide.{shifted, wide}
+use Rattle.ring.specs.inner.Wide.{shifted, wide}
 use Rattle.ring.proofs.Parity.{both-flip, both-false, both-true, flip-false, parity-ext, parity-none, parity-flip, parity-both, parity-split, parity-at}
 
 -- ---- shifts

@@ -8,17 +8,17 @@ use lib.Dec.{ltb}
 use Rattle.hashing.specs.Lists.{bitAt}
 use Rattle.ring.specs.Polynomials.{Poly, mul, spread}
 
--- where the chain stands: a^(2^k - 1), and k, the exponent's length
+-- where the chain stands: a^(2^k - 1), and its span k, the exponent's length
 pub record Rung : Type 0 where
   pub value : Poly
-  pub length : ℕ
+  pub span : ℕ
 
 unfoldable pub doubled : ℕ → Rung → Rung
 doubled r e =
-    record { value = mul r (spread r (2 ^ e .length) (e .value)) (e .value); length = e .length + e .length }
+    record { value = mul r (spread r (2 ^ e .span) (e .value)) (e .value); span = e .span + e .span }
 
 unfoldable pub longer : ℕ → Poly → Bool → Rung → Rung
-longer r a true e = record { value = mul r (spread r 2 (e .value)) a; length = e .length + 1 }
+longer r a true e = record { value = mul r (spread r 2 (e .value)) a; span = e .span + 1 }
 longer r a false e = e
 
 unfoldable pub climb : ℕ → Poly → Rung → List Bool → Rung
@@ -39,4 +39,4 @@ unfoldable pub top : ℕ → ℕ
 top u = halvings u u
 
 unfoldable pub chain : ℕ → Poly → Poly
-chain r a = spread r 2 (climb r a (record { value = a; length = 1 }) (digits (top (r - 2)) (r - 2)) .value)
+chain r a = spread r 2 (climb r a (record { value = a; span = 1 }) (digits (top (r - 2)) (r - 2)) .value)

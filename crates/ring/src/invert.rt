@@ -23,7 +23,7 @@ fn step(r: usize, x: [u64; WORDS], k: usize, y: [u64; WORDS]) -> [u64; WORDS]
 // From a^(2^k - 1) to the next rung: the exponent is doubled in length, and is one longer where the digit is 1.
 fn climb(r: usize, a: [u64; WORDS], x: [u64; WORDS], k: usize, digit: usize) -> [u64; WORDS]
     requires { ⌜ (r % 2 ≡ 1) × (1 < r) × (r < 24704) ⌝ ∗ ⌜ InRing r (bits 64 a) ⌝ ∗ ⌜ InRing r (bits 64 x) ⌝ }
-    ensures { λ y. ⌜ bits 64 y ≡ longer r (bits 64 a) (eqb digit 1) (doubled r (record { value = bits 64 x; length = k })) .value ⌝ }
+    ensures { λ y. ⌜ bits 64 y ≡ longer r (bits 64 a) (eqb digit 1) (doubled r (record { value = bits 64 x; span = k })) .value ⌝ }
 {
     let twice = step(r, x, k, x);
     if digit == 1 {

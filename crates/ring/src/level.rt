@@ -2,7 +2,7 @@
 ghost use mathlib.Core.Path.{_≡_};
 ghost use Rattle.ring.specs.Levels;
 ghost use Rattle.ring.specs.Levels.{levelOf};
-ghost use Rattle.ring.specs.Rows.{row};
+ghost use Rattle.ring.specs.inner.Rows.{row};
 
 pub struct Level {
     pub r: usize,
@@ -11,7 +11,7 @@ pub struct Level {
     pub slope: usize,
     pub offset: usize,
     pub divisor: usize,
-    pub floor: usize,
+    pub least: usize,
 }
 
 pub fn known(level: u32) -> bool
@@ -31,7 +31,7 @@ pub fn level_of(level: u32) -> Level
             slope: 69722,
             offset: 135300000,
             divisor: 10000000,
-            floor: 36,
+            least: 36,
         };
     }
     Level {
@@ -41,6 +41,6 @@ pub fn level_of(level: u32) -> Level
         slope: 52650,
         offset: 152588000,
         divisor: 10000000,
-        floor: 52,
+        least: 52,
     }
 }

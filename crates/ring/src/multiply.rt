@@ -5,7 +5,7 @@ ghost use Prim.Native.Nat.{ℕ, _+_, _-_, _*_, _/_, _%_, _^_, _≤_, _<_};
 ghost use lib.ListN.{length, getD, replicate};
 ghost use Rattle.hashing.specs.Lists.{tab, bitAt, bits};
 ghost use Rattle.ring.specs.Polynomials.{Poly, InRing, flip, parity, mul};
-ghost use Rattle.ring.specs.Wide.{shifted, wide, Outside, Multiples, start};
+ghost use Rattle.ring.specs.inner.Wide.{shifted, wide, Outside, Multiples, start};
 use crate::WORDS;
 use crate::frame::cut;
 use crate::frame::zeros;

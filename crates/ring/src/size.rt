@@ -7,6 +7,9 @@ pub const MESSAGE: usize = 32;
 
 pub const SEED: usize = 64;
 
+// What follows the positions of a private key: sigma.
+pub const TAIL: usize = 32;
+
 pub fn block(level: u32) -> usize
     ensures { λ n. ⌜ n ≡ levelOf level .r ⌝ }
 {
@@ -44,5 +47,5 @@ pub fn private_key(level: u32) -> usize
     ensures { λ n. ⌜ n ≡ privateBytes (levelOf level) ⌝ }
 {
     let d = key_weight(level);
-    2 * (d + d) + MESSAGE
+    2 * (d + d) + TAIL
 }

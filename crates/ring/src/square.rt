@@ -8,7 +8,7 @@ ghost use mathlib.Core.Path.{_≡_};
 ghost use Prim.Native.Nat.{ℕ, _+_, _-_, _*_, _/_, _%_, _^_, _≤_, _<_};
 ghost use lib.ListN.{length, getD};
 ghost use Rattle.hashing.specs.Lists.{bitAt, bits};
-ghost use Rattle.ring.specs.Held.{Held};
+ghost use Rattle.ring.specs.inner.Held.{Held};
 ghost use Rattle.ring.specs.Polynomials.{Poly, InRing, spread};
 
 // A place in a circle of r places, moved on.

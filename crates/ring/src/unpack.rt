@@ -6,7 +6,7 @@ ghost use Prim.Native.Nat.{ℕ, _+_, _*_, _/_, _%_, _^_, _≤_, _<_};
 ghost use lib.ListN.{length, getD};
 ghost use lib.Seq.{sets};
 ghost use Rattle.hashing.specs.Lists.{tab, bitAt, bits};
-ghost use Rattle.ring.specs.Held.{Held};
+ghost use Rattle.ring.specs.inner.Held.{Held};
 ghost use Rattle.ring.specs.Polynomials.{bit};
 
 // Bytes for the bits of a polynomial of the largest level, twice.

@@ -9,7 +9,7 @@ ghost use Rattle.hashing.specs.Lists.{bitAt, bits};
 ghost use Rattle.ring.specs.Bytes.{listOf};
 ghost use Rattle.ring.specs.Polynomials.{InRing, add};
 ghost use Rattle.ring.specs.Polynomials;
-ghost use Rattle.ring.specs.Wide.{Outside};
+ghost use Rattle.ring.specs.inner.Wide.{Outside};
 
 // Word i, and 0 past the end.
 pub fn word(x: &[u64], i: usize) -> u64

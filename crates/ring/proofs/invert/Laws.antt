@@ -19,7 +19,7 @@ use Rattle.ring.specs.Polynomials.{Poly, InRing, Tells, flip, one, power
 use Rattle.ring.specs.Chain.{Rung, doubled, longer, climb, digits, top}
 use Rattle.ring.proofs.Parity.{flip-false, flip-self}
 use Rattle.ring.proofs.Ring
-use Rattle.ring.proofs.Chains.{top-one, next-length}
+use Rattle.ring.proofs.Chains.{top-one, next-span}
 use Rattle.ring.proofs.Inverses.{candidate, test-passes, test-fails}
 use Rattle.ring.proofs.Packed.{bit-flip, bits-set-same, bits-set-other}
 
@@ -48,14 +48,14 @@ top-leading u some small =
 
 -- the next rung of the chain, by the digit n of u
 module _ (r : ℕ) (a : Poly) (u n : ℕ) where
-  pub next-rung : (x : Poly) → climb r a (record { value = x; length = u / 2 ^ (n + 1) }) (digits (n + 1) u)
-      ≡ climb r a (record { value = longer r a (bitAt u n) (doubled r (record { value = x; length = u / 2 ^ (n + 1) })) .value; length = u / 2 ^ n }) (digits n u)
+  pub next-rung : (x : Poly) → climb r a (record { value = x; span = u / 2 ^ (n + 1) }) (digits (n + 1) u)
+      ≡ climb r a (record { value = longer r a (bitAt u n) (doubled r (record { value = x; span = u / 2 ^ (n + 1) })) .value; span = u / 2 ^ n }) (digits n u)
   unfolding climb digits
   next-rung x =
-      let e : Rung = record { value = x; length = u / 2 ^ suc n } in
+      let e : Rung = record { value = x; span = u / 2 ^ suc n } in
       rw (add-one n)
-      (ap (λ (l : ℕ). climb r a (record { value = longer r a (bitAt u n) (doubled r e) .value; length = l }) (digits n u))
-      (next-length r a u n e refl))
+      (ap (λ (l : ℕ). climb r a (record { value = longer r a (bitAt u n) (doubled r e) .value; span = l }) (digits n u))
+      (next-span r a u n e refl))
 
 pub rung-in : (r : ℕ) → 0 < r → (a : Poly) (digit : Bool) (e : Rung) → InRing r (longer r a digit (doubled r e) .value)
 unfolding longer doubled

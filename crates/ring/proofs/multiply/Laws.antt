@@ -16,7 +16,7 @@ use Rattle.hashing.specs.Lists.{tab, bitAt, bits}
 use Rattle.hashing.proofs.Lists.{getD-tab}
 use Rattle.hashing.proofs.Words.{bit-zero, bit-above, bit-mod, bit-shr, bits-at}
 use Rattle.ring.specs.Polynomials.{Poly, InRing, flip, parity, over, mul}
-use Rattle.ring.specs.Wide.{shifted, wide, Outside, Multiples, start}
+use Rattle.ring.specs.inner.Wide.{shifted, wide, Outside, Multiples, start}
 use Rattle.ring.proofs.Parity.{flip-comm, flip-false, parity-flip, parity-none, parity-ext, parity-split}
 use Rattle.ring.proofs.Shifts.{shifted-below, shifted-from, shifted-past, shifted-swap, shifted-flip, shifted-parity, shifted-none, wide-split, wide-ext, wide-none, wide-in, wide-more, wide-blocks, mul-wide}
 use Rattle.ring.proofs.words.Laws.{placed}

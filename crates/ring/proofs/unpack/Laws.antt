@@ -15,7 +15,7 @@ use borrow.Author.Tests.{eqb-true}
 use Rattle.hashing.specs.Lists.{tab, bitAt, bits}
 use Rattle.hashing.proofs.Lists.{length-tab, getD-tab}
 use Rattle.hashing.proofs.Words.{bit-mod, bit-shr, bits-at}
-use Rattle.ring.specs.Held.{Held}
+use Rattle.ring.specs.inner.Held.{Held}
 use Rattle.ring.specs.Polynomials.{Poly, both, bit}
 
 -- a test of all numbers below n

@@ -18,7 +18,7 @@ use Rattle.hashing.specs.Lists.{bitAt, bits}
 use Rattle.hashing.proofs.Words.{bit-or, bit-mod, bit-shl, bit-shl-below, bit-shr, bit-above, bit-zero, bits-at, bits-by, bits-out, zero-at}
 use Rattle.ring.specs.Bytes.{number}
 use Rattle.ring.specs.Polynomials.{weight, Poly, InRing}
-use Rattle.ring.specs.Wide.{shifted, Outside}
+use Rattle.ring.specs.inner.Wide.{shifted, Outside}
 use Rattle.ring.proofs.Binary.{number-of}
 use Rattle.ring.proofs.Weights.{weight-ext, weight-add, weight-word}
 use Rattle.ring.proofs.Shifts.{shifted-below, shifted-from}

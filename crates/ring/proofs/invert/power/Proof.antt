@@ -13,8 +13,8 @@ use Rattle.ring.proofs.invert.power.Tie as tie
 abbrev Inv-loop : tie.InvT-loop
 Inv-loop r a u x₀ n₀ x n =
     (n < 64) × InRing r (bits 64 x)
-    × (climb r (bits 64 a) (record { value = bits 64 x; length = u / 2 ^ n }) (digits n u)
-    ≡ climb r (bits 64 a) (record { value = bits 64 a; length = 1 }) (digits (top u) u))
+    × (climb r (bits 64 a) (record { value = bits 64 x; span = u / 2 ^ n }) (digits n u)
+    ≡ climb r (bits 64 a) (record { value = bits 64 a; span = 1 }) (digits (top u) u))
 
 abbrev μ-loop : tie.MeasureT-loop
 μ-loop r a u x₀ n₀ x n = n

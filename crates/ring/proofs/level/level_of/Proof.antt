@@ -1,7 +1,7 @@
 -- `level_of` picks the row of the level.
 use borrow.Author.Tests.{eq-eqb, ne-eqb}
 use Rattle.ring.specs.Levels.{level1, level3, levelOf}
-use Rattle.ring.specs.Rows.{row}
+use Rattle.ring.specs.inner.Rows.{row}
 use Rattle.ring.proofs.level.level_of.Statement.{statement}
 use Rattle.ring.proofs.level.level_of.Tie as tie
 

@@ -10,7 +10,7 @@ use Rattle.ring.proofs.Packed.{bit-flip}
 use Rattle.hashing.specs.Lists.{bitAt, bits}
 use Rattle.hashing.proofs.Words.{bits-at}
 use Rattle.ring.specs.Polynomials.{flip, parity}
-use Rattle.ring.specs.Wide.{Outside}
+use Rattle.ring.specs.inner.Wide.{Outside}
 use Rattle.ring.proofs.Parity.{parity-ext}
 use Rattle.ring.proofs.words.Laws.{written, outside, bits-from}
 use Rattle.ring.proofs.multiply.add_rows.Statement.{statement}

@@ -6,7 +6,7 @@ use native.Mathlib.Omega.{arith}
 use lib.ListN.{length}
 use Rattle.hashing.specs.Lists.{bits}
 use Rattle.ring.specs.Polynomials.{Poly, InRing, flip, parity}
-use Rattle.ring.specs.Wide.{shifted, Multiples}
+use Rattle.ring.specs.inner.Wide.{shifted, Multiples}
 use Rattle.ring.proofs.Parity.{flip-assoc, flip-false}
 use Rattle.ring.proofs.multiply.Laws.{picked, pass, parity-eight, room}
 use Rattle.ring.proofs.multiply.add_window.Statement.{statement}

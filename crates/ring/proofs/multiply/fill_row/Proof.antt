@@ -11,7 +11,7 @@ use Rattle.ring.proofs.Packed.{bit-flip}
 use Rattle.hashing.specs.Lists.{bitAt, bits}
 use Rattle.hashing.proofs.Words.{bits-at}
 use Rattle.ring.specs.Polynomials.{flip}
-use Rattle.ring.specs.Wide.{Outside}
+use Rattle.ring.specs.inner.Wide.{Outside}
 use Rattle.ring.proofs.words.Laws.{two-words, written, outside, bits-from}
 use Rattle.ring.proofs.multiply.fill_row.Statement.{statement}
 use Rattle.ring.proofs.multiply.fill_row.Tie as tie

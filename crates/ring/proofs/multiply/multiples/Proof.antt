@@ -9,7 +9,7 @@ use lib.ListN.{length, getD}
 use Rattle.hashing.specs.Lists.{bits}
 use Rattle.hashing.proofs.Words.{zero-at}
 use Rattle.ring.specs.Polynomials.{Poly, InRing}
-use Rattle.ring.specs.Wide.{Multiples}
+use Rattle.ring.specs.inner.Wide.{Multiples}
 use Rattle.ring.proofs.multiply.Laws.{rows-first, rows-more}
 use Rattle.ring.proofs.multiply.multiples.Statement.{statement}
 use Rattle.ring.proofs.multiply.multiples.Tie as tie

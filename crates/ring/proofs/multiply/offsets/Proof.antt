@@ -6,7 +6,7 @@ use native.Mathlib.Omega.{arith}
 use lib.ListN.{length, set, drop, replicate, length-set}
 use Rattle.hashing.specs.Lists.{tab}
 use Rattle.hashing.proofs.Lists.{filled-none, filled-more, filled-all}
-use Rattle.ring.specs.Wide.{start}
+use Rattle.ring.specs.inner.Wide.{start}
 use Rattle.ring.proofs.multiply.offsets.Statement.{statement}
 use Rattle.ring.proofs.multiply.offsets.Tie as tie
 

@@ -10,7 +10,7 @@ use lib.ListN.{length, getD, length-set}
 use lib.Seq.{getD-set-other}
 use Rattle.hashing.specs.Lists.{bitAt, bits}
 use Rattle.hashing.proofs.Words.{bits-by}
-use Rattle.ring.specs.Wide.{shifted}
+use Rattle.ring.specs.inner.Wide.{shifted}
 use Rattle.ring.proofs.words.Laws.{carried, filled}
 use Rattle.ring.proofs.multiply.shift_up.Statement.{statement}
 use Rattle.ring.proofs.multiply.shift_up.Tie as tie

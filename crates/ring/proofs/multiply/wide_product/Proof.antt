@@ -11,7 +11,7 @@ use mir.Val.{Fits}
 use Rattle.hashing.specs.Lists.{bits}
 use Rattle.hashing.proofs.Words.{bits-none}
 use Rattle.ring.specs.Polynomials.{Poly, InRing, flip, parity}
-use Rattle.ring.specs.Wide.{shifted, wide, Multiples}
+use Rattle.ring.specs.inner.Wide.{shifted, wide, Multiples}
 use Rattle.ring.proofs.Shifts.{shifted-ext, wide-more}
 use Rattle.ring.proofs.multiply.Laws.{picked, combed, combed-none, combed-more, combed-all}
 use Rattle.ring.proofs.multiply.wide_product.Statement.{statement}

@@ -2,7 +2,7 @@
 use mathlib.Core.Path.{ap}
 use borrow.Author.Needs.{needs}
 use Rattle.ring.specs.Levels.{Level}
-use Rattle.ring.specs.Rows.{row}
+use Rattle.ring.specs.inner.Rows.{row}
 use Rattle.ring.proofs.size.key_weight.Statement.{statement}
 use Rattle.ring.proofs.size.key_weight.Tie as tie
 

@@ -1,4 +1,4 @@
--- `private_key` is two halves of positions and sigma.
+-- `private_key` is two halves of positions and the tail.
 use native.Mathlib.Omega.{arith}
 use borrow.Author.Needs.{needs}
 use Rattle.ring.proofs.Levels.{sizes}

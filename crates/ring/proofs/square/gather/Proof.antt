@@ -4,7 +4,7 @@ use Prim.Native.Nat.{ℕ, _+_, _-_, _*_, _%_, _≤_, _<_}
 use native.Mathlib.Nat.{mod-lt, mod-eq-of-lt, mul-zero, add-zero, not-suc-le-zero}
 use native.Mathlib.Omega.{arith}
 use Rattle.hashing.specs.Lists.{bitAt}
-use Rattle.ring.specs.Held.{Held}
+use Rattle.ring.specs.inner.Held.{Held}
 use Rattle.ring.specs.Polynomials.{Poly, bit}
 use Rattle.ring.proofs.square.Laws.{taken-two, circle-on, circle-two}
 use Rattle.ring.proofs.square.gather.Statement.{statement}

@@ -7,7 +7,7 @@ use native.Mathlib.Omega.{arith}
 use lib.ListN.{length, length-set}
 use borrow.Author.Needs.{needs}
 use Rattle.hashing.specs.Lists.{bits}
-use Rattle.ring.specs.Held.{Held}
+use Rattle.ring.specs.inner.Held.{Held}
 use Rattle.ring.specs.Polynomials.{Poly, InRing}
 use Rattle.ring.proofs.Packed.{bits-zeros, fill-below, fill-above}
 use Rattle.ring.proofs.square.Laws.{bit-small, circle-back, circle-stride}

@@ -4,7 +4,7 @@ use Prim.Native.Nat.{ℕ, _+_, _-_, _≤_, _<_}
 use native.Mathlib.Nat.{not-suc-le-zero}
 use native.Mathlib.Omega.{arith}
 use lib.ListN.{length, getD, length-set}
-use Rattle.ring.specs.Wide.{Outside}
+use Rattle.ring.specs.inner.Wide.{Outside}
 use Rattle.ring.proofs.words.Laws.{written, outside}
 use Rattle.ring.proofs.words.place.Statement.{statement}
 use Rattle.ring.proofs.words.place.Tie as tie

@@ -4,4 +4,4 @@ use Rattle.ring.specs.declared.level
 
 unfoldable pub row : level.Level.Level → Level
 row l =
-    record { r = l .r; d = l .d; t = l .t; slope = l .slope; offset = l .offset; divisor = l .divisor; floor = l .floor }
+    record { r = l .r; d = l .d; t = l .t; slope = l .slope; offset = l .offset; divisor = l .divisor; least = l .least }
