@@ -1,6 +1,6 @@
 -- Laws of answers, for every entry of every crate: what settles where nothing applies and where something does, what an answer 0
 -- says, and that a promise admits just one outcome. Assumes nothing.
-use mathlib.Core.Path.{_≡_, refl, sym}
+use mathlib.Core.Path.{_≡_, refl, sym, _∙_}
 use mathlib.Core.Bool.{Bool, true, false}
 use mathlib.Core.List.{List, [], _∷_, _++_, map}
 use Prim.Native.Nat.{ℕ, zero, suc, _<_}
@@ -83,6 +83,16 @@ first-stays (reason ∷ before) rest some = go (reason .applies) some (first-sta
         → pick b (firstOf (before ++ rest)) ≡ pick b (firstOf before)
     go true some stays = refl
     go false some stays = stays some
+
+-- one reason more, which shows only after the work
+module _ (before : List Reason) (last : Reason) (real : Numbered before) (none : firstOf before ≡ 0) where
+  pub last-applies : last .applies ≡ true → firstOf (before ++ (last ∷ [])) ≡ last .number
+  unfolding firstOf
+  last-applies so = first-after before (last ∷ []) real none ∙ rw (so, firstOf)
+
+  pub last-clear : last .applies ≡ false → firstOf (before ++ (last ∷ [])) ≡ 0
+  unfolding firstOf
+  last-clear so = first-after before (last ∷ []) real none ∙ rw (so, firstOf)
 
 -- A promise is an equation of the outcome with a function of the inputs. So two outcomes that keep it for the same input are the
 -- same: one answer, and one content for each output.

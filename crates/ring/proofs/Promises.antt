@@ -2,14 +2,13 @@
 use mathlib.Core.Path.{_≡_}
 use mathlib.Core.List.{List}
 use Prim.Native.Nat.{ℕ}
-use Rattle.hashing.specs.Answers.{Outcome}
-use Rattle.hashing.proofs.Answers.{just-one}
-use Rattle.ring.specs.Promises.{product-says, inverse-says}
+use Rattle.hashing.proofs.Answers.{one-output}
+use Rattle.ring.specs.Promises.{ProductPromise, InversePromise}
 
-pub product-just-one : (level : ℕ) (a b : List ℕ) (room : ℕ) {one other : Outcome}
-    → one ≡ product-says level a b room → other ≡ product-says level a b room → one ≡ other
-product-just-one level a b room = just-one (product-says level a b) room
+module _ (level : ℕ) (a : List ℕ) (room : ℕ) {r r′ : ℕ} {out out′ : List ℕ} where
+  pub product-just-one : (b : List ℕ) → ProductPromise level a b room r out → ProductPromise level a b room r′ out′
+      → (r ≡ r′) × (out ≡ out′)
+  product-just-one b = one-output
 
-pub inverse-just-one : (level : ℕ) (a : List ℕ) (room : ℕ) {one other : Outcome}
-    → one ≡ inverse-says level a room → other ≡ inverse-says level a room → one ≡ other
-inverse-just-one level a room = just-one (inverse-says level a) room
+  pub inverse-just-one : InversePromise level a room r out → InversePromise level a room r′ out′ → (r ≡ r′) × (out ≡ out′)
+  inverse-just-one = one-output

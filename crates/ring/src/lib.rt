@@ -12,61 +12,62 @@ pub mod square;
 pub mod unpack;
 pub mod words;
 
-use crate::layout::byte_length;
 use crate::layout::pad_set;
-use hashing::fill::zero;
+use hashing::refuse;
 ghost use mathlib.Core.Path.{_≡_};
-ghost use mathlib.Core.List.{[], _∷_};
 ghost use lib.ListN.{length};
-ghost use Rattle.hashing.specs.Answers.Outcome.{gives};
-ghost use Rattle.ring.specs.Promises.{product-says, inverse-says};
+ghost use Rattle.hashing.specs.Answers.{firstOf};
+ghost use Rattle.ring.specs.Promises.{product-reasons, ProductPromise, inverse-reasons, InversePromise};
 
 // Words of 64 bits for a polynomial of the largest level.
 pub const WORDS: usize = 386;
 
-pub fn product(level: u32, a: &[u8], b: &[u8], out: &mut [u8]) -> u32
-    ensures { λ r. ⌜ gives r (now (out .exit) ∷ [])
-        ≡ product-says level (now (a .entry)) (now (b .entry)) (length (now (out .entry))) ⌝ }
+fn judge_product(level: u32, a: &[u8], b: &[u8], room: usize) -> u32
+    ensures { λ r. ⌜ r ≡ firstOf (product-reasons level (now (a .entry)) (now (b .entry)) room) ⌝ }
 {
     if !level::known(level) {
-        zero(out);
         return 1;
     }
-    let r = size::block(level);
-    let n = byte_length(r);
-    if (a.len() != n) | (b.len() != n) | (out.len() != n) {
-        zero(out);
+    let n = size::polynomial(level);
+    if (a.len() != n) | (b.len() != n) | (room != n) {
         return 2;
     }
+    let r = size::block(level);
     if pad_set(r, a) | pad_set(r, b) {
-        zero(out);
         return 3;
     }
+    0
+}
+
+pub fn product(level: u32, a: &[u8], b: &[u8], out: &mut [u8]) -> u32
+    ensures { λ r. ⌜ ProductPromise level (now (a .entry)) (now (b .entry)) (length (now (out .entry))) r (now (out .exit)) ⌝ }
+{
+    let answer = judge_product(level, a, b, out.len());
+    if answer != 0 {
+        return refuse::one(answer, out);
+    }
+    let r = size::block(level);
     words::store(multiply::multiply(r, words::load(a), words::load(b)), out);
     0
 }
 
-pub fn inverse(level: u32, a: &[u8], out: &mut [u8]) -> u32
-    ensures { λ r. ⌜ gives r (now (out .exit) ∷ []) ≡ inverse-says level (now (a .entry)) (length (now (out .entry))) ⌝ }
+// The column of a product of a by itself: the same lengths and the same pads.
+fn judge_inverse(level: u32, a: &[u8], room: usize) -> u32
+    ensures { λ r. ⌜ r ≡ firstOf (inverse-reasons level (now (a .entry)) room) ⌝ }
 {
-    if !level::known(level) {
-        zero(out);
-        return 1;
+    judge_product(level, a, a, room)
+}
+
+pub fn inverse(level: u32, a: &[u8], out: &mut [u8]) -> u32
+    ensures { λ r. ⌜ InversePromise level (now (a .entry)) (length (now (out .entry))) r (now (out .exit)) ⌝ }
+{
+    let answer = judge_inverse(level, a, out.len());
+    if answer != 0 {
+        return refuse::one(answer, out);
     }
-    let r = size::block(level);
-    let n = byte_length(r);
-    if (a.len() != n) | (out.len() != n) {
-        zero(out);
-        return 2;
-    }
-    if pad_set(r, a) {
-        zero(out);
-        return 3;
-    }
-    let found = invert::invert(r, words::load(a));
+    let found = invert::invert(size::block(level), words::load(a));
     if !found.exists {
-        zero(out);
-        return 5;
+        return refuse::one(5, out);
     }
     let value = found.value;
     words::store(value, out);
