@@ -48,7 +48,7 @@ pub same-equal : (r : ℕ) {a b : Poly} → InRing r a → InRing r b → same r
 same-equal r {a} {b} ha hb e = Ring.ring-ext r ha hb (same-true r a b e)
 
 -- the search
-some-of : (n : ℕ) (f : ℕ → Bool) (i : ℕ) → i < n → f i ≡ true → someBelow n f ≡ true
+pub some-of : (n : ℕ) (f : ℕ → Bool) (i : ℕ) → i < n → f i ≡ true → someBelow n f ≡ true
 unfolding someBelow
 some-of zero f i below e = absurd (not-suc-le-zero below)
 some-of (suc n) f i below e = go (ℕ-discrete i n) (some-of n f i)
@@ -61,7 +61,7 @@ some-of (suc n) f i below e = go (ℕ-discrete i n) (some-of n f i)
     go (yes last) before = rw (← last, e) (or-true (someBelow i f))
     go (no other) before = rw (before (omega arith) e)
 
-first-found : (n : ℕ) (f : ℕ → Bool) → someBelow n f ≡ true → (firstBelow n f < n) × (f (firstBelow n f) ≡ true)
+pub first-found : (n : ℕ) (f : ℕ → Bool) → someBelow n f ≡ true → (firstBelow n f < n) × (f (firstBelow n f) ≡ true)
 unfolding someBelow firstBelow
 first-found zero f e = absurd (true≢false (sym e))
 first-found (suc n) f e = go (someBelow n f) (first-found n f) e
