@@ -11,6 +11,7 @@ use Rattle.hashing.proofs.Answers.{Numbered, agree, clear}
 use Rattle.ring.specs.Levels.{levelOf, polyBytes}
 use Rattle.ring.specs.Polynomials.{InRing}
 use Rattle.ring.specs.Promises.{product-reasons, inverse-reasons}
+use Rattle.ring.specs.inner.Sizes.{wordBits}
 use Rattle.ring.proofs.Bools.{both-false}
 use Rattle.ring.proofs.Layouts.{Below, pad-rule}
 use Rattle.ring.proofs.Levels.{r-small}
@@ -20,7 +21,7 @@ pub record Judged (level : ℕ) (a b : List ℕ) (room : ℕ) : Type 0 where
   pub size0 : length a ≡ polyBytes (levelOf level)
   pub size1 : length b ≡ polyBytes (levelOf level)
   pub size : room ≡ polyBytes (levelOf level)
-  pub small : levelOf level .r < 24704
+  pub small : levelOf level .r < wordBits
   pub inside0 : Below 8 a → InRing (levelOf level .r) (bits 8 a)
   pub inside1 : Below 8 b → InRing (levelOf level .r) (bits 8 b)
 

@@ -5,6 +5,7 @@ use mathlib.Core.List.{List, [], _∷_}
 use Prim.Native.Nat.{ℕ, _-_, _%_, _^_, _≤_, _<_}
 use lib.Dec.{eqb, lit<, lit≤}
 use Rattle.ring.specs.Chain.{halvings, top}
+use Rattle.ring.specs.inner.Sizes.{mostD, mostT, wordBits}
 use Rattle.ring.specs.Levels.{Level, level1, level3, levelOf, polyBytes, polyWords, padBits, ciphertextBytes, privateBytes, masked}
 
 -- what holds of each row holds of the level of every number
@@ -29,24 +30,24 @@ unfolding level1 level3
 r-odd = each (λ l. l .r % 2 ≡ 1) refl refl
 
 -- r fits the words of the code, and the word of r is one of them
-pub r-small : (level : ℕ) → levelOf level .r < 24704
+pub r-small : (level : ℕ) → levelOf level .r < wordBits
 unfolding level1 level3
-r-small = each (λ l. l .r < 24704) (lit< tt) (lit< tt)
+r-small = each (λ l. l .r < wordBits) (lit< tt) (lit< tt)
 
 -- the largest numbers of the table, for the code that adds and multiplies them
 pub record Sizes (r d t : ℕ) : Type 0 where
-  pub r-least : 199 < r
-  pub r-most : r ≤ 24659
-  pub d-most : d ≤ 103
+  pub r-least : mostT < r
+  pub r-most : r < wordBits
+  pub d-most : d ≤ mostD
   pub t-least : 0 < t
-  pub t-most : t ≤ 199
+  pub t-most : t ≤ mostT
 
 pub sizes : (level : ℕ) → Sizes (levelOf level .r) (levelOf level .d) (levelOf level .t)
 unfolding level1 level3
 sizes =
     each (λ l. Sizes (l .r) (l .d) (l .t))
-    (record { r-least = lit< tt; r-most = lit≤ tt; d-most = lit≤ tt; t-least = lit< tt; t-most = lit≤ tt })
-    (record { r-least = lit< tt; r-most = lit≤ tt; d-most = lit≤ tt; t-least = lit< tt; t-most = lit≤ tt })
+    (record { r-least = lit< tt; r-most = lit< tt; d-most = lit≤ tt; t-least = lit< tt; t-most = lit≤ tt })
+    (record { r-least = lit< tt; r-most = lit< tt; d-most = lit≤ tt; t-least = lit< tt; t-most = lit≤ tt })
 
 -- what the inverse rests on: the powers of 2 return to 1 after r - 1 steps
 pub r-cycle : (level : ℕ) → 2 ^ (levelOf level .r - 1) % levelOf level .r ≡ 1

@@ -1,7 +1,7 @@
 // The inverse of a as a^(2^(r-1) - 2), by a chain of products, and one product more to see whether it is one.
-use crate::WORDS;
 use crate::frame::is_zero;
 use crate::multiply::multiply;
+use crate::size::WORDS;
 use crate::square::squared;
 ghost use mathlib.Core.Path.{_≡_};
 ghost use mathlib.Core.Bool.{true};
@@ -11,10 +11,11 @@ ghost use Rattle.hashing.specs.Lists.{bits};
 ghost use Rattle.ring.specs.Polynomials.{InRing, Tells, one, mul, spread, hasInverse, inverseOf};
 ghost use Rattle.ring.specs.Chain;
 ghost use Rattle.ring.specs.Chain.{doubled, longer, chain};
+ghost use Rattle.ring.specs.inner.Sizes.{wordBits};
 
 // A product of the chain: k squarings of x, times y.
 fn step(r: usize, x: [u64; WORDS], k: usize, y: [u64; WORDS]) -> [u64; WORDS]
-    requires { ⌜ (r % 2 ≡ 1) × (1 < r) × (r < 24704) ⌝ ∗ ⌜ InRing r (bits 64 y) ⌝ }
+    requires { ⌜ (r % 2 ≡ 1) × (1 < r) × (r < wordBits) ⌝ ∗ ⌜ InRing r (bits 64 y) ⌝ }
     ensures { λ z. ⌜ bits 64 z ≡ mul r (spread r (2 ^ k) (bits 64 x)) (bits 64 y) ⌝ }
 {
     multiply(r, squared(r, x, k), y)
@@ -22,7 +23,7 @@ fn step(r: usize, x: [u64; WORDS], k: usize, y: [u64; WORDS]) -> [u64; WORDS]
 
 // From a^(2^k - 1) to the next rung: the exponent is doubled in length, and is one longer where the digit is 1.
 fn climb(r: usize, a: [u64; WORDS], x: [u64; WORDS], k: usize, digit: usize) -> [u64; WORDS]
-    requires { ⌜ (r % 2 ≡ 1) × (1 < r) × (r < 24704) ⌝ ∗ ⌜ InRing r (bits 64 a) ⌝ ∗ ⌜ InRing r (bits 64 x) ⌝ }
+    requires { ⌜ (r % 2 ≡ 1) × (1 < r) × (r < wordBits) ⌝ ∗ ⌜ InRing r (bits 64 a) ⌝ ∗ ⌜ InRing r (bits 64 x) ⌝ }
     ensures { λ y. ⌜ bits 64 y ≡ longer r (bits 64 a) (eqb digit 1) (doubled r (record { value = bits 64 x; span = k })) .value ⌝ }
 {
     let twice = step(r, x, k, x);
@@ -41,7 +42,7 @@ fn top(u: usize) -> usize
 }
 
 fn power(r: usize, a: [u64; WORDS]) -> [u64; WORDS]
-    requires { ⌜ (r % 2 ≡ 1) × (2 < r) × (r < 24704) ⌝ ∗ ⌜ InRing r (bits 64 a) ⌝ }
+    requires { ⌜ (r % 2 ≡ 1) × (2 < r) × (r < wordBits) ⌝ ∗ ⌜ InRing r (bits 64 a) ⌝ }
     ensures { λ x. ⌜ bits 64 x ≡ chain r (bits 64 a) ⌝ }
 {
     let u = r - 2;
@@ -70,7 +71,7 @@ pub struct Inverse {
 }
 
 pub fn invert(r: usize, a: [u64; WORDS]) -> Inverse
-    requires { ⌜ (r % 2 ≡ 1) × (2 < r) × (r < 24704) × (2 ^ (r - 1) % r ≡ 1) ⌝ ∗ ⌜ InRing r (bits 64 a) ⌝ }
+    requires { ⌜ (r % 2 ≡ 1) × (2 < r) × (r < wordBits) × (2 ^ (r - 1) % r ≡ 1) ⌝ ∗ ⌜ InRing r (bits 64 a) ⌝ }
     ensures { λ i. ⌜ i .exists ≡ hasInverse r (bits 64 a) ⌝ ∗ ⌜ (i .exists ≡ true → bits 64 (i .value) ≡ inverseOf r (bits 64 a)) ⌝ }
 {
     let value = power(r, a);

@@ -3,9 +3,10 @@ ghost use mathlib.Core.Path.{_≡_};
 ghost use Prim.Native.Nat.{_<_};
 ghost use lib.ListN.{length};
 ghost use Rattle.ring.specs.Bytes.{byteLength, padSet};
+ghost use Rattle.ring.specs.inner.Sizes.{wordBits};
 
 pub fn byte_length(r: usize) -> usize
-    requires { ⌜ r < 24704 ⌝ }
+    requires { ⌜ r < wordBits ⌝ }
     ensures { λ n. ⌜ n ≡ byteLength r ⌝ }
 {
     (r + 7) / 8

@@ -14,13 +14,11 @@ pub mod words;
 
 use crate::layout::pad_set;
 use hashing::refuse;
+pub use size::WORDS;
 ghost use mathlib.Core.Path.{_≡_};
 ghost use lib.ListN.{length};
 ghost use Rattle.hashing.specs.Answers.{firstOf};
 ghost use Rattle.ring.specs.Promises.{product-reasons, ProductPromise, inverse-reasons, InversePromise};
-
-// Words of 64 bits for a polynomial of the largest level.
-pub const WORDS: usize = 386;
 
 fn judge_product(level: u32, a: &[u8], b: &[u8], room: usize) -> u32
     ensures { λ r. ⌜ r ≡ firstOf (product-reasons level (now (a .entry)) (now (b .entry)) room) ⌝ }

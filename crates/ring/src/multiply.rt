@@ -6,24 +6,33 @@ ghost use lib.ListN.{length, getD, replicate};
 ghost use Rattle.hashing.specs.Lists.{tab, bitAt, bits};
 ghost use Rattle.ring.specs.Polynomials.{Poly, InRing, flip, parity, mul};
 ghost use Rattle.ring.specs.inner.Wide.{shifted, wide, Outside, Multiples, start};
-use crate::WORDS;
+ghost use Rattle.ring.specs.inner.Sizes.{words, wordBits, rowWords, tableWords, mostPasses, wideWords};
 use crate::frame::cut;
 use crate::frame::zeros;
+use crate::size::WORDS;
 use crate::words::funnel;
 use crate::words::place;
 use crate::words::word;
 
-// A row of the table: 386 words and one for what u·b has above them, with 7 words of 0 on each side. So a row that is moved up by
+// A row of the table: a polynomial's words and one for what u·b has above them, with 7 words of 0 on each side. So a row that is moved up by
 // m words, for m below 8, is the same row read from m words further left.
-const ROW: usize = 401;
+const ROW: usize = WORDS + 15;
+
+const TABLE: usize = 64 * ROW;
+
+// Where row 1 has b itself.
+const FIRST: usize = ROW + 7;
+
+// Room for a product before it is reduced: the words of one factor, and those of the other in passes of eight.
+pub const WIDE: usize = WORDS + 8 * ((WORDS + 7) / 8);
 
 // Row u, from those below it: twice row u / 2, and b once more if u is odd.
 fn fill_row(t: &mut [u64], u: usize, n: usize)
-    requires { ⌜ (1 < u) × (u < 64) × (n ≤ 386) × (length (now t) ≡ 64 * 401) ⌝ }
-    ensures { λ _. ⌜ Outside (401 * u + 7) (n + 1) (now (t .entry)) (now (t .exit)) ⌝ }
-    ensures { λ _. ⌜ ((k : ℕ) → k < 64 * (n + 1) → bits 64 (now (t .exit)) (64 * (401 * u + 7) + k)
-        ≡ flip (bits 64 (now (t .entry)) (64 * (401 * (u / 2) + 7) + k - 1))
-        (bits 64 (now (t .entry)) (64 * (401 * (u % 2) + 7) + k))) ⌝ }
+    requires { ⌜ (1 < u) × (u < 64) × (n ≤ words) × (length (now t) ≡ tableWords) ⌝ }
+    ensures { λ _. ⌜ Outside (rowWords * u + 7) (n + 1) (now (t .entry)) (now (t .exit)) ⌝ }
+    ensures { λ _. ⌜ ((k : ℕ) → k < 64 * (n + 1) → bits 64 (now (t .exit)) (64 * (rowWords * u + 7) + k)
+        ≡ flip (bits 64 (now (t .entry)) (64 * (rowWords * (u / 2) + 7) + k - 1))
+        (bits 64 (now (t .entry)) (64 * (rowWords * (u % 2) + 7) + k))) ⌝ }
 {
     let from = ROW * (u / 2) + 7;
     let plus = ROW * (u % 2) + 7;
@@ -36,19 +45,19 @@ fn fill_row(t: &mut [u64], u: usize, n: usize)
 }
 
 // An empty table.
-fn blank() -> [u64; 25664]
-    ensures { λ t. ⌜ t ≡ replicate 25664 0 ⌝ }
+fn blank() -> [u64; TABLE]
+    ensures { λ t. ⌜ t ≡ replicate tableWords 0 ⌝ }
 {
-    [0u64; 25664]
+    [0u64; TABLE]
 }
 
 // The table of the multiples of b, a polynomial of n words.
-fn multiples(b: [u64; WORDS], n: usize) -> [u64; 25664]
-    requires { ⌜ (n ≤ 386) × InRing (64 * n) (bits 64 b) ⌝ }
+fn multiples(b: [u64; WORDS], n: usize) -> [u64; TABLE]
+    requires { ⌜ (n ≤ words) × InRing (64 * n) (bits 64 b) ⌝ }
     ensures { λ t. ⌜ Multiples (bits 64 b) 64 t ⌝ }
 {
     let mut t = blank();
-    place(&mut t, &b, 408);
+    place(&mut t, &b, FIRST);
     let mut u = 2;
     while u < 64 {
         fill_row(&mut t, u, n);
@@ -59,7 +68,7 @@ fn multiples(b: [u64; WORDS], n: usize) -> [u64; 25664]
 
 // Where in the table the rows start that the window at bit w picks for words j to j + 7, each moved up to its word.
 fn offsets(a: &[u64], j: usize, w: u64) -> [usize; 8]
-    requires { ⌜ (w < 64) × (j < 1024) ⌝ }
+    requires { ⌜ (w < 64) × (j < 8 * mostPasses) ⌝ }
     ensures { λ r. ⌜ r ≡ tab 8 (start (now (a .entry)) w j) ⌝ }
 {
     let mut o = [0usize; 8];
@@ -111,7 +120,7 @@ fn add_rows(x: &mut [u64], j: usize, t: &[u64], o: [usize; 8], len: usize)
 
 // The rows that the window at bit w picks are added to x, for 8·passes words of a.
 fn add_window(x: &mut [u64], a: &[u64], t: &[u64], w: u64, n: usize, passes: usize)
-    requires { ⌜ (w < 64) × (n ≤ 386) × (passes ≤ 49) × (8 * passes + n ≤ length (now x)) × (length (now t) ≡ 64 * 401) ⌝ }
+    requires { ⌜ (w < 64) × (n ≤ words) × (passes ≤ mostPasses) × (8 * passes + n ≤ length (now x)) × (length (now t) ≡ tableWords) ⌝ }
     ensures { λ _. ⌜ ((b : Poly) → Multiples b 64 (now (t .entry)) → InRing (64 * n) b → (k : ℕ)
         → bits 64 (now (x .exit)) k ≡ flip (bits 64 (now (x .entry)) k) (parity (8 * passes)
         (λ j. shifted (64 * j) (wide 6 (λ e. bitAt (getD (now (a .entry)) j 0) (w + e)) b) k))) ⌝ }
@@ -140,15 +149,15 @@ fn shift_up(x: &mut [u64], len: usize)
 }
 
 // 0, with room for a product before it is reduced.
-pub fn wide_zeros() -> [u64; 778]
-    ensures { λ x. ⌜ x ≡ replicate 778 0 ⌝ }
+pub fn wide_zeros() -> [u64; WIDE]
+    ensures { λ x. ⌜ x ≡ replicate wideWords 0 ⌝ }
 {
-    [0u64; 778]
+    [0u64; WIDE]
 }
 
 // The product of two polynomials of n words, before reduction. The highest window has 4 bits only: 66 is the next multiple of 6 after 64.
-fn wide_product(a: [u64; WORDS], b: [u64; WORDS], n: usize) -> [u64; 778]
-    requires { ⌜ (n ≤ 386) × (InRing (64 * n) (bits 64 a)) × (InRing (64 * n) (bits 64 b)) ⌝ }
+fn wide_product(a: [u64; WORDS], b: [u64; WORDS], n: usize) -> [u64; WIDE]
+    requires { ⌜ (n ≤ words) × (InRing (64 * n) (bits 64 a)) × (InRing (64 * n) (bits 64 b)) ⌝ }
     ensures { λ x. ⌜ ((k : ℕ) → k < 128 * n → bits 64 x k ≡ wide (64 * n) (bits 64 a) (bits 64 b) k) ⌝ }
 {
     let t = multiples(b, n);
@@ -164,8 +173,8 @@ fn wide_product(a: [u64; WORDS], b: [u64; WORDS], n: usize) -> [u64; 778]
 }
 
 // X^r = 1: what stands from r on is added r further down.
-pub fn reduce(x: [u64; 778], r: usize) -> [u64; WORDS]
-    requires { ⌜ (0 < r % 64) × (r < 64 * 386) ⌝ }
+pub fn reduce(x: [u64; WIDE], r: usize) -> [u64; WORDS]
+    requires { ⌜ (0 < r % 64) × (r < wordBits) ⌝ }
     ensures { λ y. ⌜ InRing r (bits 64 y) × ((k : ℕ) → k < r → bits 64 y k ≡ flip (bits 64 x k) (bits 64 x (k + r))) ⌝ }
 {
     let q = r / 64;
@@ -181,7 +190,7 @@ pub fn reduce(x: [u64; 778], r: usize) -> [u64; WORDS]
 
 // The product in the ring of r.
 pub fn multiply(r: usize, a: [u64; WORDS], b: [u64; WORDS]) -> [u64; WORDS]
-    requires { ⌜ (r % 2 ≡ 1) × (r < 24704) ⌝ ∗ ⌜ InRing r (bits 64 a) ⌝ ∗ ⌜ InRing r (bits 64 b) ⌝ }
+    requires { ⌜ (r % 2 ≡ 1) × (r < wordBits) ⌝ ∗ ⌜ InRing r (bits 64 a) ⌝ ∗ ⌜ InRing r (bits 64 b) ⌝ }
     ensures { λ c. ⌜ bits 64 c ≡ mul r (bits 64 a) (bits 64 b) ⌝ }
 {
     reduce(wide_product(a, b, r / 64 + 1), r)

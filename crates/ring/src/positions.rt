@@ -1,5 +1,5 @@
 // The exponents of a polynomial, in rising order.
-use crate::WORDS;
+use crate::size::WORDS;
 ghost use mathlib.Core.Path.{_≡_};
 ghost use mathlib.Core.List.{map};
 ghost use Prim.Native.Nat.{ℕ, _+_, _≤_, _<_};
@@ -8,10 +8,11 @@ ghost use lib.Seq.{sets};
 ghost use Rattle.hashing.specs.Lists.{bitAt, bits};
 ghost use Rattle.ring.specs.Polynomials;
 ghost use Rattle.ring.specs.Polynomials.{InRing};
+ghost use Rattle.ring.specs.inner.Sizes.{wordBits};
 
 // Those of one word, which starts at bit `base`, into `out` from `count` on.
 fn of_word(w: u64, base: usize, out: &mut [u16], count: usize) -> usize
-    requires { ⌜ (base < 24704) × (count + length (Polynomials.rising 64 (bitAt w)) ≤ length (now out)) ⌝ }
+    requires { ⌜ (base < wordBits) × (count + length (Polynomials.rising 64 (bitAt w)) ≤ length (now out)) ⌝ }
     ensures { λ n. ⌜ n ≡ count + length (Polynomials.rising 64 (bitAt w)) ⌝
         ∗ ⌜ now (out .exit) ≡ sets (now (out .entry)) count (map (λ (e : ℕ). base + e) (Polynomials.rising 64 (bitAt w))) ⌝ }
 {
@@ -28,7 +29,7 @@ fn of_word(w: u64, base: usize, out: &mut [u16], count: usize) -> usize
 
 // How many there are; they stand at the start of `out`.
 pub fn rising(r: usize, x: [u64; WORDS], out: &mut [u16]) -> usize
-    requires { ⌜ r < 24704 ⌝ ∗ ⌜ InRing r (bits 64 x) ⌝ ∗ ⌜ length (Polynomials.rising r (bits 64 x)) ≤ length (now out) ⌝ }
+    requires { ⌜ r < wordBits ⌝ ∗ ⌜ InRing r (bits 64 x) ⌝ ∗ ⌜ length (Polynomials.rising r (bits 64 x)) ≤ length (now out) ⌝ }
     ensures { λ n. ⌜ n ≡ length (Polynomials.rising r (bits 64 x)) ⌝
         ∗ ⌜ now (out .exit) ≡ sets (now (out .entry)) 0 (Polynomials.rising r (bits 64 x)) ⌝ }
 {

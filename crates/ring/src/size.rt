@@ -3,6 +3,13 @@ use crate::level::level_of;
 ghost use mathlib.Core.Path.{_≡_};
 ghost use Rattle.ring.specs.Levels.{levelOf, polyBytes, ciphertextBytes, privateBytes};
 
+// The largest sizes of the table: words of 64 bits for a polynomial, weight of a half of a private key, weight of an error.
+pub const WORDS: usize = 386;
+
+pub const MOST_D: usize = 103;
+
+pub const MOST_T: usize = 199;
+
 pub const MESSAGE: usize = 32;
 
 pub const SEED: usize = 64;

@@ -1,8 +1,8 @@
 // The product of a dense polynomial by a sparse one: x X^p is x turned by p places. x is held twice in a row, so that each turned x is
 // a window of that, and the windows are added word by word.
-use crate::WORDS;
 use crate::frame::cut;
 use crate::frame::zeros;
+use crate::size::WORDS;
 ghost use mathlib.Core.Path.{_≡_};
 ghost use mathlib.Core.Bool.{false};
 ghost use mathlib.Core.List.{[], _∷_};
@@ -10,9 +10,10 @@ ghost use Prim.Native.Nat.{ℕ, _+_, _*_, _/_, _%_, _≤_, _<_};
 ghost use lib.ListN.{length, getD, take};
 ghost use Rattle.hashing.specs.Lists.{bitAt, bits};
 ghost use Rattle.ring.specs.Polynomials.{Poly, InRing, flip, terms, mul};
+ghost use Rattle.ring.specs.inner.Sizes.{words, wordBits, twiceWords};
 
 // Room for a polynomial twice, and a word that the last window reads.
-const TWICE: usize = 773;
+const TWICE: usize = 2 * WORDS + 1;
 
 // The 64 bits from bit s on of two words in a row. (No shift is by 64, s = 0 included.)
 fn join(low: u64, high: u64, s: usize) -> u64
@@ -42,7 +43,7 @@ fn copied(x: [u64; WORDS]) -> [u64; TWICE]
 
 // Each word after that of r is what stands r places before it.
 fn extend(d: &mut [u64], r: usize)
-    requires { ⌜ (64 ≤ r) × (r < 24704) × (length (now d) ≡ 773) ⌝ }
+    requires { ⌜ (64 ≤ r) × (r < wordBits) × (length (now d) ≡ twiceWords) ⌝ }
     ensures { λ _. ⌜ ((a : Poly) → ((k : ℕ) → k < 64 * (r / 64 + 1) → bits 64 (now (d .entry)) k ≡ a (k % r))
         → (k : ℕ) → k < 64 * (2 * (r / 64) + 2) → bits 64 (now (d .exit)) k ≡ a (k % r)) ⌝ }
 {
@@ -55,7 +56,7 @@ fn extend(d: &mut [u64], r: usize)
 }
 
 fn twice(r: usize, x: [u64; WORDS]) -> [u64; TWICE]
-    requires { ⌜ (64 ≤ r) × (r < 24704) ⌝ ∗ ⌜ InRing r (bits 64 x) ⌝ }
+    requires { ⌜ (64 ≤ r) × (r < wordBits) ⌝ ∗ ⌜ InRing r (bits 64 x) ⌝ }
     ensures { λ d. ⌜ ((k : ℕ) → k < r + r → bits 64 d k ≡ bits 64 x (k % r)) ⌝ }
 {
     let mut d = copied(x);
@@ -66,7 +67,7 @@ fn twice(r: usize, x: [u64; WORDS]) -> [u64; TWICE]
 
 // Adds to the n lowest words of y the window of d that starts at bit `from`.
 fn add_window(y: &mut [u64], d: &[u64], from: usize, n: usize)
-    requires { ⌜ (from < 24704) × (n ≤ 386) × (n ≤ length (now y)) × (from / 64 + n < length (now d)) ⌝ }
+    requires { ⌜ (from < wordBits) × (n ≤ words) × (n ≤ length (now y)) × (from / 64 + n < length (now d)) ⌝ }
     ensures { λ _. ⌜ ((k : ℕ) → k < 64 * n → bits 64 (now (y .exit)) k ≡ flip (bits 64 (now (y .entry)) k) (bits 64 (now (d .entry)) (from + k))) ⌝
         ∗ ⌜ ((k : ℕ) → 64 * n ≤ k → bits 64 (now (y .exit)) k ≡ bits 64 (now (y .entry)) k) ⌝ }
 {
@@ -80,7 +81,7 @@ fn add_window(y: &mut [u64], d: &[u64], from: usize, n: usize)
 }
 
 pub fn sparse(r: usize, positions: &[u16], count: usize, x: [u64; WORDS]) -> [u64; WORDS]
-    requires { ⌜ (64 ≤ r) × (r < 24704) × (count ≤ length (now positions)) ⌝ ∗ ⌜ InRing r (bits 64 x) ⌝
+    requires { ⌜ (64 ≤ r) × (r < wordBits) × (count ≤ length (now positions)) ⌝ ∗ ⌜ InRing r (bits 64 x) ⌝
         ∗ ⌜ ((i : ℕ) → i < count → getD (now positions) i 0 < r) ⌝ }
     ensures { λ y. ⌜ bits 64 y ≡ mul r (terms r (take count (now (positions .entry)))) (bits 64 x) ⌝ }
 {

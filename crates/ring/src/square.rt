@@ -1,8 +1,8 @@
 // k squarings at once: the exponents are multiplied by 2^k modulo r, so with n the inverse of 2^k modulo r, bit j of the result is
 // bit n j mod r of x.
-use crate::WORDS;
 use crate::frame::cut;
 use crate::frame::zeros;
+use crate::size::WORDS;
 use crate::unpack::unpacked;
 ghost use mathlib.Core.Path.{_≡_};
 ghost use Prim.Native.Nat.{ℕ, _+_, _-_, _*_, _/_, _%_, _^_, _≤_, _<_};
@@ -10,10 +10,11 @@ ghost use lib.ListN.{length, getD};
 ghost use Rattle.hashing.specs.Lists.{bitAt, bits};
 ghost use Rattle.ring.specs.inner.Held.{Held};
 ghost use Rattle.ring.specs.Polynomials.{Poly, InRing, spread};
+ghost use Rattle.ring.specs.inner.Sizes.{wordBits};
 
 // A place in a circle of r places, moved on.
 fn moved(r: usize, at: usize, by: usize) -> usize
-    requires { ⌜ (at < r) × (by ≤ r) × (r < 24704) ⌝ }
+    requires { ⌜ (at < r) × (by ≤ r) × (r < wordBits) ⌝ }
     ensures { λ p. ⌜ p ≡ (at + by) % r ⌝ }
 {
     let next = at + by;
@@ -22,7 +23,7 @@ fn moved(r: usize, at: usize, by: usize) -> usize
 
 // Half of h modulo an odd r.
 fn half(r: usize, h: usize) -> usize
-    requires { ⌜ (r % 2 ≡ 1) × (h < r) × (r < 24704) ⌝ }
+    requires { ⌜ (r % 2 ≡ 1) × (h < r) × (r < wordBits) ⌝ }
     ensures { λ n. ⌜ (n < r) × ((2 * n) % r ≡ h) ⌝ }
 {
     if h % 2 == 0 { h / 2 } else { (h + r) / 2 }
@@ -30,7 +31,7 @@ fn half(r: usize, h: usize) -> usize
 
 // The inverse of 2^k modulo an odd r.
 fn halved(r: usize, k: usize) -> usize
-    requires { ⌜ (r % 2 ≡ 1) × (1 < r) × (r < 24704) ⌝ }
+    requires { ⌜ (r % 2 ≡ 1) × (1 < r) × (r < wordBits) ⌝ }
     ensures { λ n. ⌜ (n < r) × ((2 ^ k * n) % r ≡ 1) ⌝ }
 {
     let mut h = 1;
@@ -52,7 +53,7 @@ fn wide(b: u8) -> u64
 // polynomial is held twice, so only every other place has to be brought back below r. And a bit that comes in at the low end costs
 // less than one that is shifted to its place.
 fn gather(d: &[u8], r: usize, start: usize, step: usize) -> u64
-    requires { ⌜ (start < r) × (step < r) × (r < 24704) × (r + r ≤ length (now d)) ⌝
+    requires { ⌜ (start < r) × (step < r) × (r < wordBits) × (r + r ≤ length (now d)) ⌝
         ∗ ⌜ ((k : ℕ) → k < r + r → getD (now d) k 0 < 2) ⌝ }
     ensures { λ w. ⌜ ((a : Poly) → Held r a (now (d .entry)) → (e : ℕ) → e < 64 → bitAt w e ≡ a ((start + step * (63 - e)) % r)) ⌝ }
 {
@@ -70,7 +71,7 @@ fn gather(d: &[u8], r: usize, start: usize, step: usize) -> u64
 }
 
 fn permuted(r: usize, x: [u64; WORDS], n: usize) -> [u64; WORDS]
-    requires { ⌜ (0 < n) × (n < r) × (r < 24704) ⌝ }
+    requires { ⌜ (0 < n) × (n < r) × (r < wordBits) ⌝ }
     ensures { λ y. ⌜ InRing (64 * (r / 64 + 1)) (bits 64 y) ⌝
         ∗ ⌜ ((k : ℕ) → k < 64 * (r / 64 + 1) → bits 64 y k ≡ bits 64 x ((n * k) % r)) ⌝ }
 {
@@ -88,7 +89,7 @@ fn permuted(r: usize, x: [u64; WORDS], n: usize) -> [u64; WORDS]
 }
 
 pub fn squared(r: usize, x: [u64; WORDS], k: usize) -> [u64; WORDS]
-    requires { ⌜ (r % 2 ≡ 1) × (1 < r) × (r < 24704) ⌝ }
+    requires { ⌜ (r % 2 ≡ 1) × (1 < r) × (r < wordBits) ⌝ }
     ensures { λ y. ⌜ bits 64 y ≡ spread r (2 ^ k) (bits 64 x) ⌝ }
 {
     cut(r, permuted(r, x, halved(r, k)))

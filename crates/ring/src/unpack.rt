@@ -1,5 +1,5 @@
 // A polynomial with one byte to a bit, twice in a row: a loop over its bits then needs no shift, and a step within it no wrap.
-use crate::WORDS;
+use crate::size::WORDS;
 ghost use mathlib.Core.Path.{_≡_};
 ghost use mathlib.Core.Logic.{_⊎_};
 ghost use Prim.Native.Nat.{ℕ, _+_, _*_, _/_, _%_, _^_, _≤_, _<_};
@@ -8,9 +8,10 @@ ghost use lib.Seq.{sets};
 ghost use Rattle.hashing.specs.Lists.{tab, bitAt, bits};
 ghost use Rattle.ring.specs.inner.Held.{Held};
 ghost use Rattle.ring.specs.Polynomials.{bit};
+ghost use Rattle.ring.specs.inner.Sizes.{wordBits, wordBytes};
 
 // Bytes for the bits of a polynomial of the largest level, twice.
-pub const TWICE_BITS: usize = 49408;
+pub const TWICE_BITS: usize = 2 * 64 * WORDS;
 
 // The digits of a byte, each in a byte of its own: of seven copies of the low seven digits, seven places apart, copy m has digit m at
 // place 8 m. The copies do not overlap.
@@ -38,7 +39,7 @@ fn put(out: &mut [u8], at: usize, v: u64)
 
 // The bits of the n lowest bytes of x.
 pub fn lay(x: &[u64], n: usize, out: &mut [u8])
-    requires { ⌜ (n ≤ 8 * length (now x)) × (8 * n ≤ length (now out)) × (n ≤ 3088) ⌝ }
+    requires { ⌜ (n ≤ 8 * length (now x)) × (8 * n ≤ length (now out)) × (n ≤ wordBytes) ⌝ }
     ensures { λ _. ⌜ ((k : ℕ) → k < 8 * n → getD (now (out .exit)) k 0 ≡ bit (bits 64 (now (x .entry)) k)) ⌝ }
     ensures { λ _. ⌜ ((k : ℕ) → 8 * n ≤ k → getD (now (out .exit)) k 0 ≡ getD (now (out .entry)) k 0) ⌝ }
 {
@@ -68,7 +69,7 @@ fn blank() -> [u8; TWICE_BITS] {
 }
 
 pub fn unpacked(r: usize, x: [u64; WORDS]) -> [u8; TWICE_BITS]
-    requires { ⌜ r < 24704 ⌝ }
+    requires { ⌜ r < wordBits ⌝ }
     ensures { λ d. ⌜ Held r (bits 64 x) d ⌝ }
 {
     let mut d = blank();

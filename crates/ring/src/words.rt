@@ -1,6 +1,6 @@
 // Polynomials in words of 64 bits: coefficient i is bit i mod 64 of word i div 64.
-use crate::WORDS;
 use crate::frame::zeros;
+use crate::size::WORDS;
 ghost use mathlib.Core.Path.{_≡_};
 ghost use mathlib.Core.List.{[], _∷_};
 ghost use Prim.Native.Nat.{ℕ, _+_, _-_, _*_, _/_, _≤_, _<_};
@@ -10,6 +10,7 @@ ghost use Rattle.ring.specs.Bytes.{listOf};
 ghost use Rattle.ring.specs.Polynomials.{InRing, add};
 ghost use Rattle.ring.specs.Polynomials;
 ghost use Rattle.ring.specs.inner.Wide.{Outside};
+ghost use Rattle.ring.specs.inner.Sizes.{words, wordBytes};
 
 // Word i, and 0 past the end.
 pub fn word(x: &[u64], i: usize) -> u64
@@ -41,7 +42,7 @@ pub fn place(t: &mut [u64], b: &[u64], at: usize)
 
 // The sum of two polynomials of n words.
 pub fn sum(a: [u64; WORDS], b: [u64; WORDS], n: usize) -> [u64; WORDS]
-    requires { ⌜ (n ≤ 386) × InRing (64 * n) (bits 64 a) × InRing (64 * n) (bits 64 b) ⌝ }
+    requires { ⌜ (n ≤ words) × InRing (64 * n) (bits 64 a) × InRing (64 * n) (bits 64 b) ⌝ }
     ensures { λ c. ⌜ bits 64 c ≡ add (bits 64 a) (bits 64 b) ⌝ }
 {
     let mut c = zeros();
@@ -55,7 +56,7 @@ pub fn sum(a: [u64; WORDS], b: [u64; WORDS], n: usize) -> [u64; WORDS]
 
 // The number of ones in the first n words.
 pub fn weight(a: [u64; WORDS], n: usize) -> usize
-    requires { ⌜ n ≤ 386 ⌝ }
+    requires { ⌜ n ≤ words ⌝ }
     ensures { λ r. ⌜ r ≡ Polynomials.weight (64 * n) (bits 64 a) ⌝ }
 {
     let mut ones = 0;
@@ -76,7 +77,7 @@ fn byte(b: &[u8], i: usize) -> u8
 
 // The eight bytes from `at` on, the first one lowest.
 fn word_of(b: &[u8], at: usize) -> u64
-    requires { ⌜ at < 4096 ⌝ }
+    requires { ⌜ at < wordBytes ⌝ }
     ensures { λ r. ⌜ ((e : ℕ) → e < 64 → bitAt r e ≡ bits 8 (now (b .entry)) (8 * at + e)) ⌝ }
 {
     let mut w = 0;
@@ -90,7 +91,7 @@ fn word_of(b: &[u8], at: usize) -> u64
 
 // A polynomial from its bytes.
 pub fn load(bytes: &[u8]) -> [u64; WORDS]
-    requires { ⌜ length (now bytes) ≤ 3088 ⌝ }
+    requires { ⌜ length (now bytes) ≤ wordBytes ⌝ }
     ensures { λ r. ⌜ bits 64 r ≡ bits 8 (now (bytes .entry)) ⌝ }
 {
     let n = (bytes.len() + 7) / 8;
@@ -105,7 +106,7 @@ pub fn load(bytes: &[u8]) -> [u64; WORDS]
 
 // A polynomial's bytes, as many as `out` holds.
 pub fn store(a: [u64; WORDS], out: &mut [u8])
-    requires { ⌜ length (now out) ≤ 3088 ⌝ }
+    requires { ⌜ length (now out) ≤ wordBytes ⌝ }
     ensures { λ _. ⌜ now (out .exit) ≡ listOf 8 (length (now (out .entry))) (bits 64 a) ⌝ }
 {
     let mut i = 0;

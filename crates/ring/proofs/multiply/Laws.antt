@@ -17,6 +17,7 @@ use Rattle.hashing.proofs.Lists.{getD-tab}
 use Rattle.hashing.proofs.Words.{bit-zero, bit-above, bit-mod, bit-shr, bits-at}
 use Rattle.ring.specs.Polynomials.{Poly, InRing, flip, parity, over, mul}
 use Rattle.ring.specs.inner.Wide.{shifted, wide, Outside, Multiples, start}
+use Rattle.ring.specs.inner.Sizes.{words, rowWords, tableWords, firstRow}
 use Rattle.ring.proofs.Parity.{flip-comm, flip-false, parity-flip, parity-none, parity-ext, parity-split}
 use Rattle.ring.proofs.Shifts.{shifted-below, shifted-from, shifted-past, shifted-swap, shifted-flip, shifted-parity, shifted-none, wide-split, wide-ext, wide-none, wide-in, wide-more, wide-blocks, mul-wide}
 use Rattle.ring.proofs.words.Laws.{placed}
@@ -68,47 +69,47 @@ wide-one b k =
     ∙ shifted-from 0 b k zero-le ∙ ap b (sub-zero k)
 
 -- row 1 is b, and row 0 is 0
-row-first : (u : ℕ) (b : Poly) (k : ℕ) → u < 2 → k < 64 * 401
-    → shifted (64 * 408) b (64 * (401 * u) + k) ≡ shifted 448 (wide 6 (bitAt u) b) k
+row-first : (u : ℕ) (b : Poly) (k : ℕ) → u < 2 → k < 64 * rowWords
+    → shifted (64 * firstRow) b (64 * (rowWords * u) + k) ≡ shifted 448 (wide 6 (bitAt u) b) k
 row-first zero b k h below =
-    shifted-below (64 * 408) b (64 * (401 * 0) + k) (omega arith)
+    shifted-below (64 * firstRow) b (64 * (rowWords * 0) + k) (omega arith)
     ∙ sym (shifted-none 448 (wide 6 (bitAt 0) b) k (λ j. wide-none 6 (bitAt 0) b j (λ i low. bit-zero i)))
 row-first (suc zero) b k h below =
-    shifted-past (64 * 401) 448 b k ∙ ap (λ (p : Poly). shifted 448 p k) (fun-ext (λ j. sym (wide-one b j)))
+    shifted-past (64 * rowWords) 448 b k ∙ ap (λ (p : Poly). shifted 448 p k) (fun-ext (λ j. sym (wide-one b j)))
 row-first (suc (suc u)) b k h below = absurd (not-suc-le-zero (le-of-suc-le-suc (le-of-suc-le-suc h)))
 
-pub rows-first : (z b t : List ℕ) → ((i : ℕ) → getD z i 0 ≡ 0) → Outside 408 (length b) z t
-    → ((i : ℕ) → i < length b → getD t (408 + i) 0 ≡ getD b i 0) → Multiples (bits 64 b) 2 t
+pub rows-first : (z b t : List ℕ) → ((i : ℕ) → getD z i 0 ≡ 0) → Outside firstRow (length b) z t
+    → ((i : ℕ) → i < length b → getD t (firstRow + i) 0 ≡ getD b i 0) → Multiples (bits 64 b) 2 t
 rows-first z b t zeros out inside u k h below =
-    placed 408 z b t zeros out inside (64 * (401 * u) + k) ∙ row-first u (bits 64 b) k h below
+    placed firstRow z b t zeros out inside (64 * (rowWords * u) + k) ∙ row-first u (bits 64 b) k h below
 
 -- the rows from u on are still 0; row u is filled
-module _ (b : Poly) (u n : ℕ) (t t′ : List ℕ) (two : 1 < u) (less : u < 64) (small : n ≤ 386) (inside : InRing (64 * n) b)
-    (out : Outside (401 * u + 7) (n + 1) t t′)
-    (new : (k : ℕ) → k < 64 * (n + 1) → bits 64 t′ (64 * (401 * u + 7) + k)
-    ≡ flip (bits 64 t (64 * (401 * (u / 2) + 7) + k - 1)) (bits 64 t (64 * (401 * (u % 2) + 7) + k)))
-    (zeros : (i : ℕ) → 401 * u ≤ i → getD t i 0 ≡ 0) (before : Multiples b u t) where
-  kept : (k : ℕ) → (k / 64 < 401 * u + 7) ⊎ (401 * u + 7 + (n + 1) ≤ k / 64) → bits 64 t′ k ≡ bits 64 t k
+module _ (b : Poly) (u n : ℕ) (t t′ : List ℕ) (two : 1 < u) (less : u < 64) (small : n ≤ words) (inside : InRing (64 * n) b)
+    (out : Outside (rowWords * u + 7) (n + 1) t t′)
+    (new : (k : ℕ) → k < 64 * (n + 1) → bits 64 t′ (64 * (rowWords * u + 7) + k)
+    ≡ flip (bits 64 t (64 * (rowWords * (u / 2) + 7) + k - 1)) (bits 64 t (64 * (rowWords * (u % 2) + 7) + k)))
+    (zeros : (i : ℕ) → rowWords * u ≤ i → getD t i 0 ≡ 0) (before : Multiples b u t) where
+  kept : (k : ℕ) → (k / 64 < rowWords * u + 7) ⊎ (rowWords * u + 7 + (n + 1) ≤ k / 64) → bits 64 t′ k ≡ bits 64 t k
   kept k far =
       bits-at 64 t′ (k / 64) (k % 64) (omega arith) (omega arith) ∙ ap (λ (x : ℕ). bitAt x (k % 64)) (out (k / 64) far)
       ∙ sym (bits-at 64 t (k / 64) (k % 64) (omega arith) (omega arith))
 
-  still : (k : ℕ) → 401 * u ≤ k / 64 → bits 64 t k ≡ false
+  still : (k : ℕ) → rowWords * u ≤ k / 64 → bits 64 t k ≡ false
   still k h =
       bits-at 64 t (k / 64) (k % 64) (omega arith) (omega arith) ∙ ap (λ (x : ℕ). bitAt x (k % 64)) (zeros (k / 64) h) ∙ bit-zero (k % 64)
 
-  filled-row : (k : ℕ) → k < 64 * 401 → bits 64 t′ (64 * (401 * u) + k) ≡ shifted 448 (wide 6 (bitAt u) b) k
+  filled-row : (k : ℕ) → k < 64 * rowWords → bits 64 t′ (64 * (rowWords * u) + k) ≡ shifted 448 (wide 6 (bitAt u) b) k
   filled-row k below = go (decLt k 448) (decLt k (448 + 64 * (n + 1)))
     where
-      go : Dec (k < 448) → Dec (k < 448 + 64 * (n + 1)) → bits 64 t′ (64 * (401 * u) + k) ≡ shifted 448 (wide 6 (bitAt u) b) k
+      go : Dec (k < 448) → Dec (k < 448 + 64 * (n + 1)) → bits 64 t′ (64 * (rowWords * u) + k) ≡ shifted 448 (wide 6 (bitAt u) b) k
       go (yes pad) d =
-          kept (64 * (401 * u) + k) (inl (omega arith)) ∙ still (64 * (401 * u) + k) (omega arith)
+          kept (64 * (rowWords * u) + k) (inl (omega arith)) ∙ still (64 * (rowWords * u) + k) (omega arith)
           ∙ sym (shifted-below 448 (wide 6 (bitAt u) b) k pad)
       go (no from) (yes body) =
           let d = k - 448 in
-          let here : 64 * (401 * u) + k ≡ 64 * (401 * u + 7) + d = omega arith in
-          let half : 64 * (401 * (u / 2) + 7) + d - 1 ≡ 64 * (401 * (u / 2)) + (k - 1) = omega arith in
-          let odd : 64 * (401 * (u % 2) + 7) + d ≡ 64 * (401 * (u % 2)) + k = omega arith in
+          let here : 64 * (rowWords * u) + k ≡ 64 * (rowWords * u + 7) + d = omega arith in
+          let half : 64 * (rowWords * (u / 2) + 7) + d - 1 ≡ 64 * (rowWords * (u / 2)) + (k - 1) = omega arith in
+          let odd : 64 * (rowWords * (u % 2) + 7) + d ≡ 64 * (rowWords * (u % 2)) + k = omega arith in
           ap (bits 64 t′) here ∙ new d (omega arith)
           ∙ ap₂ flip
           (ap (bits 64 t) half ∙ before (u / 2) (k - 1) (omega arith) (omega arith)
@@ -116,14 +117,14 @@ module _ (b : Poly) (u n : ℕ) (t t′ : List ℕ) (two : 1 < u) (less : u < 64
           (ap (bits 64 t) odd ∙ before (u % 2) k (omega arith) below)
           ∙ row-more u b k less
       go (no from) (no past) =
-          kept (64 * (401 * u) + k) (inr (omega arith)) ∙ still (64 * (401 * u) + k) (omega arith)
+          kept (64 * (rowWords * u) + k) (inr (omega arith)) ∙ still (64 * (rowWords * u) + k) (omega arith)
           ∙ sym (shifted-from 448 (wide 6 (bitAt u) b) k (omega arith) ∙ wide-in (64 * n) 6 (bitAt u) b inside (k - 448) (omega arith))
 
   pub rows-more : Multiples b (u + 1) t′
   rows-more v k h below = go (decLt v u)
     where
-      go : Dec (v < u) → bits 64 t′ (64 * (401 * v) + k) ≡ shifted 448 (wide 6 (bitAt v) b) k
-      go (yes old) = kept (64 * (401 * v) + k) (inl (omega arith)) ∙ before v k old below
+      go : Dec (v < u) → bits 64 t′ (64 * (rowWords * v) + k) ≡ shifted 448 (wide 6 (bitAt v) b) k
+      go (yes old) = kept (64 * (rowWords * v) + k) (inl (omega arith)) ∙ before v k old below
       go (no reached) = let last : v ≡ u = omega arith in rw last (filled-row k below)
 
 -- ---- a window
@@ -132,12 +133,12 @@ module _ (b : Poly) (u n : ℕ) (t t′ : List ℕ) (two : 1 < u) (less : u < 64
 abbrev pub picked : List ℕ → ℕ → Poly → ℕ → Poly
 picked a w b j = wide 6 (λ e. bitAt (getD a j 0) (w + e)) b
 
-module _ (a t : List ℕ) (b : Poly) (n w j : ℕ) (small : n ≤ 386) (rows : Multiples b 64 t) (inside : InRing (64 * n) b) where
+module _ (a t : List ℕ) (b : Poly) (n w j : ℕ) (small : n ≤ words) (rows : Multiples b 64 t) (inside : InRing (64 * n) b) where
   -- a row of the table, read from where `start` says
   row : (m k : ℕ) → m < 8 → k < 64 * (n + 8) → bits 64 t (64 * start a w j m + k) ≡ shifted (64 * m) (picked a w b (j + m)) k
   row m k h below =
       let u = getD a (j + m) 0 / 2 ^ w % 64 in
-      let place : 64 * start a w j m + k ≡ 64 * (401 * u) + (64 * (7 - m) + k) = omega arith in
+      let place : 64 * start a w j m + k ≡ 64 * (rowWords * u) + (64 * (7 - m) + k) = omega arith in
       let pad : 448 ≡ 64 * (7 - m) + 64 * m = omega arith in
       ap (bits 64 t) place ∙ rows u (64 * (7 - m) + k) (mod-lt (getD a (j + m) 0 / 2 ^ w) (lit< tt)) (omega arith)
       ∙ ap (λ (s : ℕ). shifted s (wide 6 (bitAt u) b) (64 * (7 - m) + k)) pad
@@ -184,7 +185,7 @@ pub parity-eight : (i : ℕ) (f : ℕ → Bool) → parity (8 * (i + 1)) f ≡ f
 parity-eight i f = let more : 8 * (i + 1) ≡ 8 * i + 8 = omega arith in rw more (parity-split (8 * i) 8 f)
 
 -- the rows end inside the table
-pub room : (a o : List ℕ) (w j n m : ℕ) → o ≡ tab 8 (start a w j) → n ≤ 386 → m < 8 → getD o m 0 + (n + 8) ≤ 64 * 401
+pub room : (a o : List ℕ) (w j n m : ℕ) → o ≡ tab 8 (start a w j) → n ≤ words → m < 8 → getD o m 0 + (n + 8) ≤ tableWords
 room a o w j n m starts small h =
     let at : getD o m 0 ≡ start a w j m = ap (λ (l : List ℕ). getD l m 0) starts ∙ getD-tab 8 (start a w j) 0 m h in
     omega arith

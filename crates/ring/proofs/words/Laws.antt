@@ -19,6 +19,7 @@ use Rattle.hashing.proofs.Words.{bit-or, bit-mod, bit-shl, bit-shl-below, bit-s
 use Rattle.ring.specs.Bytes.{number}
 use Rattle.ring.specs.Polynomials.{weight, Poly, InRing}
 use Rattle.ring.specs.inner.Wide.{shifted, Outside}
+use Rattle.ring.specs.inner.Sizes.{words}
 use Rattle.ring.proofs.Binary.{number-of}
 use Rattle.ring.proofs.Weights.{weight-ext, weight-add, weight-word}
 use Rattle.ring.proofs.Shifts.{shifted-below, shifted-from}
@@ -170,14 +171,14 @@ placed at z b t zeros out inside k = go (decLt k (64 * at)) (decLt k (64 * (at +
 
 abbrev pub Done : Poly → ℕ → List ℕ → Type 0
 Done P i y =
-    (length y ≡ 386) × ((j : ℕ) → i ≤ j → getD y j 0 ≡ 0)
+    (length y ≡ words) × ((j : ℕ) → i ≤ j → getD y j 0 ≡ 0)
     × ((j : ℕ) → j < i → (e : ℕ) → e < 64 → bitAt (getD y j 0) e ≡ P (64 * j + e))
 
-pub done-none : (P : Poly) (y : List ℕ) → y ≡ replicate 386 0 → Done P 0 y
+pub done-none : (P : Poly) (y : List ℕ) → y ≡ replicate words 0 → Done P 0 y
 done-none P y zeros =
-    (ap length zeros, (λ j h. ap (λ (l : List ℕ). getD l j 0) zeros ∙ zero-at 386 j), λ j h. absurd (not-suc-le-zero h))
+    (ap length zeros, (λ j h. ap (λ (l : List ℕ). getD l j 0) zeros ∙ zero-at words j), λ j h. absurd (not-suc-le-zero h))
 
-pub done-more : (P : Poly) (i v : ℕ) (y : List ℕ) → i < 386 → Done P i y → ((e : ℕ) → e < 64 → bitAt v e ≡ P (64 * i + e))
+pub done-more : (P : Poly) (i v : ℕ) (y : List ℕ) → i < words → Done P i y → ((e : ℕ) → e < 64 → bitAt v e ≡ P (64 * i + e))
     → Done P (i + 1) (set y i v)
 done-more P i v y room before now = (
   length-set y i v ∙ before .0,

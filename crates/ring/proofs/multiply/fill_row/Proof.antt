@@ -12,6 +12,7 @@ use Rattle.hashing.specs.Lists.{bitAt, bits}
 use Rattle.hashing.proofs.Words.{bits-at}
 use Rattle.ring.specs.Polynomials.{flip}
 use Rattle.ring.specs.inner.Wide.{Outside}
+use Rattle.ring.specs.inner.Sizes.{rowWords}
 use Rattle.ring.proofs.words.Laws.{two-words, written, outside, bits-from}
 use Rattle.ring.proofs.multiply.fill_row.Statement.{statement}
 use Rattle.ring.proofs.multiply.fill_row.Tie as tie
@@ -30,9 +31,9 @@ loop-again c =
     let l = c .before .before .before .before .before .loop in
     let a = c .before .before .before .before .before .before .before .args in
     let t₀ = a .t .now in
-    let from = 401 * (a .u / 2) + 7 in
-    let plus = 401 * (a .u % 2) + 7 in
-    let to = 401 * a .u + 7 in
+    let from = rowWords * (a .u / 2) + 7 in
+    let plus = rowWords * (a .u % 2) + 7 in
+    let to = rowWords * a .u + 7 in
     let v = bitXor (c .before .funnel .result) (getD (l .t) (plus + l .i) 0) in
     let P : ℕ → ℕ → Type 0 = λ j y. (e : ℕ) → e < 64
     → bitAt y e ≡ flip (bits 64 t₀ (64 * from + (64 * j + e) - 1)) (bits 64 t₀ (64 * plus + (64 * j + e))) in (
@@ -58,8 +59,8 @@ returns c =
     let a = c .before .before .before .args in
     let all : l .i ≡ a .n + 1 = omega arith in (
       rw (← all) (l .inv .2),
-      bits-from (l .t) (401 * a .u + 7) (a .n + 1)
-          (λ k. flip (bits 64 (a .t .now) (64 * (401 * (a .u / 2) + 7) + k - 1)) (bits 64 (a .t .now) (64 * (401 * (a .u % 2) + 7) + k)))
+      bits-from (l .t) (rowWords * a .u + 7) (a .n + 1)
+          (λ k. flip (bits 64 (a .t .now) (64 * (rowWords * (a .u / 2) + 7) + k - 1)) (bits 64 (a .t .now) (64 * (rowWords * (a .u % 2) + 7) + k)))
           (rw (← all) (l .inv .3)),
     )
 

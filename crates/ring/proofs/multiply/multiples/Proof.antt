@@ -10,14 +10,15 @@ use Rattle.hashing.specs.Lists.{bits}
 use Rattle.hashing.proofs.Words.{zero-at}
 use Rattle.ring.specs.Polynomials.{Poly, InRing}
 use Rattle.ring.specs.inner.Wide.{Multiples}
+use Rattle.ring.specs.inner.Sizes.{rowWords, tableWords}
 use Rattle.ring.proofs.multiply.Laws.{rows-first, rows-more}
 use Rattle.ring.proofs.multiply.multiples.Statement.{statement}
 use Rattle.ring.proofs.multiply.multiples.Tie as tie
 
 abbrev Inv-loop : tie.InvT-loop
 Inv-loop n t₀ u₀ t u =
-    (1 < u) × (u ≤ 64) × (length t ≡ 64 * 401) × ((b : Poly) → InRing (64 * n) b → Multiples b 2 t₀ → Multiples b u t)
-    × ((i : ℕ) → 401 * u ≤ i → getD t i 0 ≡ 0)
+    (1 < u) × (u ≤ 64) × (length t ≡ tableWords) × ((b : Poly) → InRing (64 * n) b → Multiples b 2 t₀ → Multiples b u t)
+    × ((i : ℕ) → rowWords * u ≤ i → getD t i 0 ≡ 0)
 
 abbrev μ-loop : tie.MeasureT-loop
 μ-loop n t₀ u₀ t u = 64 - u
@@ -29,7 +30,7 @@ loop-holds c =
       omega arith,
       omega arith,
       (λ b inside first. first),
-      λ i h. c .before .place .ensures .0 i (inr (omega arith)) ∙ ap (λ (x : List ℕ). getD x i 0) (z .ensures) ∙ zero-at 25664 i,
+      λ i h. c .before .place .ensures .0 i (inr (omega arith)) ∙ ap (λ (x : List ℕ). getD x i 0) (z .ensures) ∙ zero-at tableWords i,
     )
 
 loop-again : tie.Need-loop-again Inv-loop μ-loop
@@ -51,7 +52,7 @@ returns c u k h below =
     let p = c .before .before .before .place in
     let z = c .before .before .before .before .before .before .blank in
     l .inv .3 (bits 64 (a .t1)) (c .before .before .before .before .before .before .before .pre .1)
-    (rows-first (z .result) (a .t1) (p .last .0) (λ i. ap (λ (x : List ℕ). getD x i 0) (z .ensures) ∙ zero-at 25664 i) (p .ensures .0) (p .ensures .1))
+    (rows-first (z .result) (a .t1) (p .last .0) (λ i. ap (λ (x : List ℕ). getD x i 0) (z .ensures) ∙ zero-at tableWords i) (p .ensures .0) (p .ensures .1))
     u k (omega arith) below
 
 pub multiples-spec : {M : Type 1} → statement M

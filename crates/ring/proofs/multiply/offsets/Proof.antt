@@ -7,6 +7,7 @@ use lib.ListN.{length, set, drop, replicate, length-set}
 use Rattle.hashing.specs.Lists.{tab}
 use Rattle.hashing.proofs.Lists.{filled-none, filled-more, filled-all}
 use Rattle.ring.specs.inner.Wide.{start}
+use Rattle.ring.specs.inner.Sizes.{rowWords}
 use Rattle.ring.proofs.multiply.offsets.Statement.{statement}
 use Rattle.ring.proofs.multiply.offsets.Tie as tie
 
@@ -20,7 +21,7 @@ loop-again : tie.Need-loop-again Inv-loop μ-loop
 loop-again c =
     let l = c .before .before .loop in
     let a = c .before .before .before .before .args in
-    let v : ℕ → ℕ = λ x. 401 * (x / 2 ^ a .w % 64) + (7 - l .m) in (
+    let v : ℕ → ℕ = λ x. rowWords * (x / 2 ^ a .w % 64) + (7 - l .m) in (
       omega arith,
       length-set (l .o) (l .m) (v (c .word .result)) ∙ l .inv .1,
       ap₂ (λ (o : List ℕ) (x : ℕ). set o (l .m) (v x)) (l .inv .2) (c .word .ensures)

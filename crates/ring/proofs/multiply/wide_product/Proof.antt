@@ -12,6 +12,7 @@ use Rattle.hashing.specs.Lists.{bits}
 use Rattle.hashing.proofs.Words.{bits-none}
 use Rattle.ring.specs.Polynomials.{Poly, InRing, flip, parity}
 use Rattle.ring.specs.inner.Wide.{shifted, wide, Multiples}
+use Rattle.ring.specs.inner.Sizes.{wideWords}
 use Rattle.ring.proofs.Shifts.{shifted-ext, wide-more}
 use Rattle.ring.proofs.multiply.Laws.{picked, combed, combed-none, combed-more, combed-all}
 use Rattle.ring.proofs.multiply.wide_product.Statement.{statement}
@@ -19,7 +20,7 @@ use Rattle.ring.proofs.multiply.wide_product.Tie as tie
 
 abbrev Inv-loop : tie.InvT-loop
 Inv-loop n a t passes x₀ w₀ x w =
-    (w ≤ 66) × (w % 6 ≡ 0) × (length x ≡ 778)
+    (w ≤ 66) × (w % 6 ≡ 0) × (length x ≡ wideWords)
     × ((b : Poly) → Multiples b 64 t → InRing (64 * n) b → (k : ℕ) → k < 64 * (8 * passes + n) → bits 64 x k ≡ combed (8 * passes) a b w k)
 
 abbrev μ-loop : tie.MeasureT-loop
@@ -72,7 +73,7 @@ wide-product-spec =
       refl,
       omega arith,
       λ b rows inside k h.
-          ap (λ (x : List ℕ). bits 64 x k) (c .wide-zeros .ensures) ∙ bits-none 64 778 k
+          ap (λ (x : List ℕ). bits 64 x k) (c .wide-zeros .ensures) ∙ bits-none 64 wideWords k
           ∙ sym (combed-none (8 * ((n + 7) / 8)) (c .before .before .args .t1) b k),
     ))
     (λ c. omega arith)

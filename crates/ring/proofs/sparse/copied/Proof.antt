@@ -9,6 +9,7 @@ use lib.ListN.{length, getD, length-set}
 use Rattle.hashing.specs.Lists.{bits}
 use Rattle.hashing.proofs.Words.{bits-at, bits-out}
 use Rattle.ring.specs.Polynomials.{Poly, InRing}
+use Rattle.ring.specs.inner.Sizes.{words, wordBits, twiceWords}
 use Rattle.ring.proofs.Ring.{ring-ext}
 use Rattle.ring.proofs.Packed.{fill-below, fill-above}
 use Rattle.ring.proofs.sparse.copied.Statement.{statement}
@@ -16,10 +17,10 @@ use Rattle.ring.proofs.sparse.copied.Tie as tie
 
 abbrev Inv-loop : tie.InvT-loop
 Inv-loop x d₀ i₀ d i =
-    (i ≤ 386) × (length d ≡ 773) × InRing (64 * i) (bits 64 d) × ((k : ℕ) → k < 64 * i → bits 64 d k ≡ bits 64 x k)
+    (i ≤ words) × (length d ≡ twiceWords) × InRing (64 * i) (bits 64 d) × ((k : ℕ) → k < 64 * i → bits 64 d k ≡ bits 64 x k)
 
 abbrev μ-loop : tie.MeasureT-loop
-μ-loop x d₀ i₀ d i = 386 - i
+μ-loop x d₀ i₀ d i = words - i
 
 loop-holds : tie.Need-loop-holds Inv-loop μ-loop
 loop-holds c =
@@ -39,7 +40,7 @@ loop-again c =
 returns : tie.Need-returns Inv-loop μ-loop
 returns c =
     let was = c .before .loop in
-    ring-ext 24704 (λ k past. was .inv .2 k (omega arith)) (λ k past. bits-out 64 _ k (lit< tt) (omega arith))
+    ring-ext wordBits (λ k past. was .inv .2 k (omega arith)) (λ k past. bits-out 64 _ k (lit< tt) (omega arith))
     (λ k below. was .inv .3 k (omega arith))
 
 pub copied-spec : {M : Type 1} → statement M

@@ -7,6 +7,7 @@ use borrow.Author.Needs.{needs}
 use lib.ListN.{length, getD, take}
 use Rattle.hashing.specs.Lists.{bits}
 use Rattle.ring.specs.Polynomials.{Poly, InRing, flip, terms, mul}
+use Rattle.ring.specs.inner.Sizes.{words}
 use Rattle.ring.proofs.Packed.{bits-zeros}
 use Rattle.ring.proofs.Ring.{ring-ext, mul-in}
 use Rattle.ring.proofs.sparse.Laws.{term-none, term-more}
@@ -15,7 +16,7 @@ use Rattle.ring.proofs.sparse.sparse.Tie as tie
 
 abbrev Inv-loop : tie.InvT-loop
 Inv-loop r positions count d y₀ i₀ y i =
-    (i ≤ count) × (length y ≡ 386) × InRing (64 * (r / 64 + 1)) (bits 64 y)
+    (i ≤ count) × (length y ≡ words) × InRing (64 * (r / 64 + 1)) (bits 64 y)
     × ((x : Poly) → ((k : ℕ) → k < r + r → bits 64 d k ≡ x (k % r))
     → (k : ℕ) → k < r → bits 64 y k ≡ mul r (terms r (take i positions)) x k)
 
@@ -25,7 +26,7 @@ abbrev μ-loop : tie.MeasureT-loop
 loop-holds : tie.Need-loop-holds Inv-loop μ-loop
 loop-holds c =
     let r = c .before .before .before .args .r in
-    let none : (k : ℕ) → bits 64 (c .zeros .result) k ≡ false = λ k. ap (λ (p : Poly). p k) (ap (bits 64) (c .zeros .ensures) ∙ bits-zeros 386) in
+    let none : (k : ℕ) → bits 64 (c .zeros .result) k ≡ false = λ k. ap (λ (p : Poly). p k) (ap (bits 64) (c .zeros .ensures) ∙ bits-zeros words) in
     (omega arith, omega arith, λ k past. none k, λ x held k below. none k ∙ sym (term-none r x k))
 
 -- the turn's position is below r

@@ -9,6 +9,7 @@ use borrow.Author.Needs.{needs}
 use Rattle.hashing.specs.Lists.{bits}
 use Rattle.ring.specs.inner.Held.{Held}
 use Rattle.ring.specs.Polynomials.{Poly, InRing}
+use Rattle.ring.specs.inner.Sizes.{words}
 use Rattle.ring.proofs.Packed.{bits-zeros, fill-below, fill-above}
 use Rattle.ring.proofs.square.Laws.{bit-small, circle-back, circle-stride}
 use Rattle.ring.proofs.square.permuted.Statement.{statement}
@@ -16,7 +17,7 @@ use Rattle.ring.proofs.square.permuted.Tie as tie
 
 abbrev Inv-loop : tie.InvT-loop
 Inv-loop r n d stride start₀ y₀ i₀ start y i =
-    (i ≤ r / 64 + 1) × (length y ≡ 386) × (start ≡ (n * (64 * i + 63)) % r) × (start < r) × InRing (64 * i) (bits 64 y)
+    (i ≤ r / 64 + 1) × (length y ≡ words) × (start ≡ (n * (64 * i + 63)) % r) × (start < r) × InRing (64 * i) (bits 64 y)
     × ((a : Poly) → Held r a d → (k : ℕ) → k < 64 * i → bits 64 y k ≡ a ((n * k) % r))
 
 abbrev μ-loop : tie.MeasureT-loop
@@ -30,7 +31,7 @@ loop-holds c =
       omega arith,
       ap (λ (p : ℕ). p % r) (mul-comm 63 n),
       mod-lt (63 * n) (omega arith),
-      λ k past. ap (λ (p : ℕ → Bool). p k) (ap (bits 64) (c .zeros .ensures) ∙ bits-zeros 386),
+      λ k past. ap (λ (p : ℕ → Bool). p k) (ap (bits 64) (c .zeros .ensures) ∙ bits-zeros words),
       λ a held k below. absurd (not-suc-le-zero below),
     )
 

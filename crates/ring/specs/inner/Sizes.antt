@@ -1,0 +1,63 @@
+-- The largest sizes, for the code's arrays and loops: three numbers that follow the level table, and all others from these. No public
+-- promise cites this file. Assumes nothing.
+use Prim.Native.Nat.{ℕ, _+_, _*_, _/_}
+use Rattle.ring.specs.Levels.{messageBytes, tailBytes}
+
+-- words of 64 bits for a polynomial, weight of a half of a private key, weight of an error
+abbrev pub words : ℕ
+words = 386
+
+abbrev pub mostD : ℕ
+mostD = 103
+
+abbrev pub mostT : ℕ
+mostT = 199
+
+-- the bits and the bytes of these words
+abbrev pub wordBits : ℕ
+wordBits = 64 * words
+
+abbrev pub wordBytes : ℕ
+wordBytes = 8 * words
+
+-- a polynomial twice in a row: in words, with one that the last window reads, and one byte to a bit
+abbrev pub twiceWords : ℕ
+twiceWords = 2 * words + 1
+
+abbrev pub twiceBits : ℕ
+twiceBits = 2 * wordBits
+
+-- and three times, for the decoder's rows
+abbrev pub rowsBits : ℕ
+rowsBits = 3 * wordBits
+
+-- The dense product: a row of its table has one word more than a polynomial, and 7 words of 0 on each side; where row 1 has the
+-- polynomial; the passes of eight words; the words of a product before it is reduced.
+abbrev pub rowWords : ℕ
+rowWords = words + 15
+
+abbrev pub tableWords : ℕ
+tableWords = 64 * rowWords
+
+abbrev pub firstRow : ℕ
+firstRow = rowWords + 7
+
+abbrev pub mostPasses : ℕ
+mostPasses = (words + 7) / 8
+
+abbrev pub wideWords : ℕ
+wideWords = words + 8 * mostPasses
+
+-- what the samplers read: 4 bytes for a position of an error, and for each of both halves of a key
+abbrev pub errorBytes : ℕ
+errorBytes = 4 * mostT
+
+abbrev pub keyStreamBytes : ℕ
+keyStreamBytes = 8 * mostD
+
+-- a private key and a ciphertext
+abbrev pub mostPrivateBytes : ℕ
+mostPrivateBytes = 2 * (mostD + mostD) + tailBytes
+
+abbrev pub mostCiphertextBytes : ℕ
+mostCiphertextBytes = wordBytes + messageBytes
