@@ -29,12 +29,14 @@ fn blank() -> [u64; TWICE]
     [0u64; TWICE]
 }
 
-fn copied(x: [u64; WORDS]) -> [u64; TWICE]
+// The n words of x.
+fn copied(x: [u64; WORDS], n: usize) -> [u64; TWICE]
+    requires { ⌜ (n ≤ words) × InRing (64 * n) (bits 64 x) ⌝ }
     ensures { λ d. ⌜ bits 64 d ≡ bits 64 x ⌝ }
 {
     let mut d = blank();
     let mut i = 0;
-    while i < WORDS {
+    while i < n {
         d[i] = x[i];
         i += 1;
     }
@@ -59,7 +61,7 @@ fn twice(r: usize, x: [u64; WORDS]) -> [u64; TWICE]
     requires { ⌜ (64 ≤ r) × (r < wordBits) ⌝ ∗ ⌜ InRing r (bits 64 x) ⌝ }
     ensures { λ d. ⌜ ((k : ℕ) → k < r + r → bits 64 d k ≡ bits 64 x (k % r)) ⌝ }
 {
-    let mut d = copied(x);
+    let mut d = copied(x, r / 64 + 1);
     d[r / 64] = d[r / 64] ^ (d[0] << (r % 64));
     extend(&mut d, r);
     d

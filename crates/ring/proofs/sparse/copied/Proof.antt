@@ -4,23 +4,22 @@ use mathlib.Core.Bool.{false}
 use Prim.Native.Nat.{ℕ, _-_, _*_, _≤_, _<_}
 use native.Mathlib.Nat.{not-suc-le-zero}
 use native.Mathlib.Omega.{arith}
-use lib.Dec.{lit<}
 use lib.ListN.{length, getD, length-set}
 use Rattle.hashing.specs.Lists.{bits}
-use Rattle.hashing.proofs.Words.{bits-at, bits-out}
+use Rattle.hashing.proofs.Words.{bits-at}
 use Rattle.ring.specs.Polynomials.{Poly, InRing}
-use Rattle.ring.specs.inner.Sizes.{words, wordBits, twiceWords}
+use Rattle.ring.specs.inner.Sizes.{twiceWords}
 use Rattle.ring.proofs.Ring.{ring-ext}
 use Rattle.ring.proofs.Packed.{fill-below, fill-above}
 use Rattle.ring.proofs.sparse.copied.Statement.{statement}
 use Rattle.ring.proofs.sparse.copied.Tie as tie
 
 abbrev Inv-loop : tie.InvT-loop
-Inv-loop x d₀ i₀ d i =
-    (i ≤ words) × (length d ≡ twiceWords) × InRing (64 * i) (bits 64 d) × ((k : ℕ) → k < 64 * i → bits 64 d k ≡ bits 64 x k)
+Inv-loop n x d₀ i₀ d i =
+    (i ≤ n) × (length d ≡ twiceWords) × InRing (64 * i) (bits 64 d) × ((k : ℕ) → k < 64 * i → bits 64 d k ≡ bits 64 x k)
 
 abbrev μ-loop : tie.MeasureT-loop
-μ-loop x d₀ i₀ d i = words - i
+μ-loop n x d₀ i₀ d i = n - i
 
 loop-holds : tie.Need-loop-holds Inv-loop μ-loop
 loop-holds c =
@@ -40,8 +39,8 @@ loop-again c =
 returns : tie.Need-returns Inv-loop μ-loop
 returns c =
     let was = c .before .loop in
-    ring-ext wordBits (λ k past. was .inv .2 k (omega arith)) (λ k past. bits-out 64 _ k (lit< tt) (omega arith))
-    (λ k below. was .inv .3 k (omega arith))
+    let given = c .before .before .before in
+    ring-ext (64 * given .args .n) (λ k past. was .inv .2 k (omega arith)) (given .pre .1) (λ k below. was .inv .3 k (omega arith))
 
 pub copied-spec : {M : Type 1} → statement M
 copied-spec =

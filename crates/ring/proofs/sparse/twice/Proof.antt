@@ -23,7 +23,8 @@ pub twice-spec : {M : Type 1} → statement M
 twice-spec =
     tie.close
     (tie.spec
-    (λ c κs. search needs)
+    (λ c. search needs)
+    (λ c κs. (omega arith, λ k past. c .pre .1 k (omega arith)))
     (λ c. search needs)
     (λ c. search needs)
     (λ c. search needs)
