@@ -1,40 +1,19 @@
--- Facts of every level, each shown for the rows of the table by computing. Assumes nothing.
+-- Facts of every level: one test of a row, computed over the whole table, and what follows from it. Assumes nothing.
 use mathlib.Core.Path.{_≡_, refl}
-use mathlib.Core.Bool.{Bool, true, false}
-use mathlib.Core.List.{List, [], _∷_}
-use Prim.Native.Nat.{ℕ, _-_, _%_, _^_, _≤_, _<_}
-use lib.Dec.{eqb, lit<, lit≤}
+use mathlib.Core.Bool.{Bool, true, false, _&&_}
+use mathlib.Core.List.{List, [], _∷_, map}
+use Prim.Native.Nat.{ℕ, zero, suc, _+_, _-_, _*_, _/_, _%_, _^_, _≤_, _<_}
+use native.Mathlib.Nat.{mul-le-mul-left, div-lt-iff-lt-mul}
+use native.Mathlib.Omega.{arith}
+use borrow.Author.Tests.{ltb-true, leb-true, eqb-true}
+use lib.Dec.{eqb, leb, ltb}
+use lib.ListN.{getD}
 use Rattle.ring.specs.Chain.{halvings, top}
 use Rattle.ring.specs.inner.Sizes.{mostD, mostT, wordBits}
-use Rattle.ring.specs.Levels.{Level, level1, level3, levelOf, polyBytes, polyWords, padBits, ciphertextBytes, privateBytes, masked}
+use Rattle.ring.specs.Levels.{Level, level1, level3, table, rowIn, levelOf, polyBytes, polyWords, padBits, ciphertextBytes, privateBytes, masked}
+use Rattle.ring.proofs.Bools.{both-true}
 
--- what holds of each row holds of the level of every number
-pub each : (P : Level → Type 0) → P level1 → P level3 → (level : ℕ) → P (levelOf level)
-unfolding levelOf
-each P one three level = go (eqb level 1)
-  where
-    go : (t : Bool) → P (elim t [ true ↦ level1 | false ↦ level3 ])
-    go true = one
-    go false = three
-
-pub r-pos : (level : ℕ) → 0 < levelOf level .r
-unfolding level1 level3
-r-pos = each (λ l. 0 < l .r) (lit< tt) (lit< tt)
-
-pub r-big : (level : ℕ) → 2 < levelOf level .r
-unfolding level1 level3
-r-big = each (λ l. 2 < l .r) (lit< tt) (lit< tt)
-
-pub r-odd : (level : ℕ) → levelOf level .r % 2 ≡ 1
-unfolding level1 level3
-r-odd = each (λ l. l .r % 2 ≡ 1) refl refl
-
--- r fits the words of the code, and the word of r is one of them
-pub r-small : (level : ℕ) → levelOf level .r < wordBits
-unfolding level1 level3
-r-small = each (λ l. l .r < wordBits) (lit< tt) (lit< tt)
-
--- the largest numbers of the table, for the code that adds and multiplies them
+-- the sizes of a row, for the code that adds and multiplies them
 pub record Sizes (r d t : ℕ) : Type 0 where
   pub r-least : mostT < r
   pub r-most : r < wordBits
@@ -42,17 +21,117 @@ pub record Sizes (r d t : ℕ) : Type 0 where
   pub t-least : 0 < t
   pub t-most : t ≤ mostT
 
-pub sizes : (level : ℕ) → Sizes (levelOf level .r) (levelOf level .d) (levelOf level .t)
-unfolding level1 level3
-sizes =
-    each (λ l. Sizes (l .r) (l .d) (l .t))
-    (record { r-least = lit< tt; r-most = lit< tt; d-most = lit≤ tt; t-least = lit< tt; t-most = lit≤ tt })
-    (record { r-least = lit< tt; r-most = lit< tt; d-most = lit≤ tt; t-least = lit< tt; t-most = lit≤ tt })
+-- the numbers of the threshold of a weight s
+pub record Bounds (l : Level) (s : ℕ) : Type 0 where
+  pub sum : l .slope * s + l .offset < 2 ^ 40
+  pub divides : 0 < l .divisor
+  pub quotient : (l .slope * s + l .offset) / l .divisor < 256
+  pub least : 3 ≤ l .least
+  pub most : l .least < 256
 
--- what the inverse rests on: the powers of 2 return to 1 after r - 1 steps
+-- all that proofs use of a row. The inverse rests on `cycle`: the powers of 2 return to 1 after r - 1 steps
+pub record Facts (l : Level) : Type 0 where
+  pub odd : l .r % 2 ≡ 1
+  pub cycle : 2 ^ (l .r - 1) % l .r ≡ 1
+  pub sizes : Sizes (l .r) (l .d) (l .t)
+  pub bounds : Bounds l (l .r)
+
+-- and the tests that show it
+tests : Level → List Bool
+tests l =
+    let sum = l .slope * l .r + l .offset in
+    eqb (l .r % 2) 1 ∷ eqb (2 ^ (l .r - 1) % l .r) 1
+    ∷ ltb mostT (l .r) ∷ ltb (l .r) wordBits ∷ leb (l .d) mostD ∷ ltb 0 (l .t) ∷ leb (l .t) mostT
+    ∷ ltb sum (2 ^ 40) ∷ ltb 0 (l .divisor) ∷ ltb (sum / l .divisor) 256 ∷ leb 3 (l .least) ∷ ltb (l .least) 256 ∷ []
+
+every : List Bool → Bool
+every [] = true
+every (t ∷ rest) = t && every rest
+
+fits : Level → Bool
+fits l = every (tests l)
+
+every-at : (ts : List Bool) → every ts ≡ true → (i : ℕ) → getD ts i true ≡ true
+unfolding every
+every-at [] e i = refl
+every-at (t ∷ rest) e zero = both-true t (every rest) e .0
+every-at (t ∷ rest) e (suc i) = every-at rest (both-true t (every rest) e .1) i
+
+fits-facts : (l : Level) → fits l ≡ true → Facts l
+unfolding fits tests
+fits-facts l e =
+    let at = every-at (tests l) e in
+    record {
+      odd = eqb-true _ _ (at 0);
+      cycle = eqb-true _ _ (at 1);
+      sizes = record {
+        r-least = ltb-true _ _ (at 2);
+        r-most = ltb-true _ _ (at 3);
+        d-most = leb-true _ _ (at 4);
+        t-least = ltb-true _ _ (at 5);
+        t-most = leb-true _ _ (at 6);
+      };
+      bounds = record {
+        sum = ltb-true _ _ (at 7);
+        divides = ltb-true _ _ (at 8);
+        quotient = ltb-true _ _ (at 9);
+        least = leb-true _ _ (at 10);
+        most = ltb-true _ _ (at 11);
+      };
+    }
+
+-- the whole table, and with it the row of every number
+table-fits : every (map fits table) ≡ true
+unfolding every fits tests table level1 level3
+table-fits = refl
+
+row-fits : (rows : List Level) (level : ℕ) → every (map fits rows) ≡ true → fits level1 ≡ true → fits (rowIn rows level) ≡ true
+unfolding rowIn every
+row-fits [] level all first = first
+row-fits (l ∷ rest) level all first = go (eqb level (l .number)) (row-fits rest level)
+  where
+    go : (t : Bool) → (every (map fits rest) ≡ true → fits level1 ≡ true → fits (rowIn rest level) ≡ true)
+        → fits (elim t [ true ↦ l | false ↦ rowIn rest level ]) ≡ true
+    go true later = both-true (fits l) (every (map fits rest)) all .0
+    go false later = later (both-true (fits l) (every (map fits rest)) all .1) first
+
+pub facts : (level : ℕ) → Facts (levelOf level)
+unfolding levelOf table every
+facts level = fits-facts (levelOf level) (row-fits table level table-fits (every-at (map fits table) table-fits 0))
+
+-- one by one
+pub sizes : (level : ℕ) → Sizes (levelOf level .r) (levelOf level .d) (levelOf level .t)
+sizes level = facts level .sizes
+
+pub r-pos : (level : ℕ) → 0 < levelOf level .r
+r-pos level = omega (arith, sizes level .r-least)
+
+pub r-big : (level : ℕ) → 2 < levelOf level .r
+r-big level = omega (arith, sizes level .r-least)
+
+pub r-odd : (level : ℕ) → levelOf level .r % 2 ≡ 1
+r-odd level = facts level .odd
+
+pub r-small : (level : ℕ) → levelOf level .r < wordBits
+r-small level = sizes level .r-most
+
 pub r-cycle : (level : ℕ) → 2 ^ (levelOf level .r - 1) % levelOf level .r ≡ 1
-unfolding level1 level3
-r-cycle = each (λ l. 2 ^ (l .r - 1) % l .r ≡ 1) refl refl
+r-cycle level = facts level .cycle
+
+-- a residual's weight is at most r, and what holds of r holds of it
+pub bounds : (level s : ℕ) → s ≤ levelOf level .r → Bounds (levelOf level) s
+bounds level s few =
+    let l = levelOf level in
+    let at-r = facts level .bounds in
+    let less : l .slope * s ≤ l .slope * l .r = mul-le-mul-left (l .slope) few in
+    let room : l .slope * l .r + l .offset < 256 * l .divisor = div-lt-iff-lt-mul (at-r .divides) .0 (at-r .quotient) in
+    record {
+      sum = omega (arith, at-r .sum);
+      divides = at-r .divides;
+      quotient = div-lt-iff-lt-mul (at-r .divides) .1 (omega (arith, room));
+      least = at-r .least;
+      most = at-r .most;
+    }
 
 -- the table's other numbers: bytes of a polynomial, its words, its pad bits, bytes of a ciphertext and of a private key, the masked
 -- bound, and the place of the highest digit of r - 2 in the chain of the inverse

@@ -1,10 +1,13 @@
 -- "Numbers of the two levels": a row for each level, and all that follows from a row. Assumes nothing.
-use mathlib.Core.Bool.{Bool, true, false, _||_}
+use mathlib.Core.Bool.{Bool, true, false}
+use mathlib.Core.List.{List, [], _∷_, map}
 use Prim.Native.Nat.{ℕ, _+_, _*_, _-_, _/_}
 use lib.Dec.{eqb}
 use Rattle.ring.specs.Bytes.{byteLength}
+use Rattle.ring.specs.Polynomials.{listed}
 
 pub record Level : Type 0 where
+  pub number : ℕ
   -- block length in bits; weight of h0 and of h1; error weight
   pub r : ℕ
   pub d : ℕ
@@ -17,18 +20,26 @@ pub record Level : Type 0 where
 
 unfoldable pub level1 : Level
 level1 =
-    record { r = 12323; d = 71; t = 134; slope = 69722; offset = 135300000; divisor = 10000000; least = 36 }
+    record { number = 1; r = 12323; d = 71; t = 134; slope = 69722; offset = 135300000; divisor = 10000000; least = 36 }
 
 unfoldable pub level3 : Level
 level3 =
-    record { r = 24659; d = 103; t = 199; slope = 52650; offset = 152588000; divisor = 10000000; least = 52 }
+    record { number = 3; r = 24659; d = 103; t = 199; slope = 52650; offset = 152588000; divisor = 10000000; least = 52 }
 
--- "level is neither 1 nor 3" is `known` false; `levelOf` is read of a known level only
+unfoldable pub table : List Level
+table = level1 ∷ level3 ∷ []
+
+-- "level is neither 1 nor 3" is `known` false
 unfoldable pub known : ℕ → Bool
-known level = eqb level 1 || eqb level 3
+known level = listed level (map (λ (l : Level). l .number) table)
+
+-- the row with a level's number. `levelOf` is read of a known level only: an unknown one reads the first row
+unfoldable pub rowIn : List Level → ℕ → Level
+rowIn [] level = level1
+rowIn (l ∷ rest) level = elim (eqb level (l .number)) [ true ↦ l | false ↦ rowIn rest level ]
 
 unfoldable pub levelOf : ℕ → Level
-levelOf level = elim (eqb level 1) [ true ↦ level1 | false ↦ level3 ]
+levelOf level = rowIn table level
 
 -- "A message, sigma and session key have 32 bytes"
 abbrev pub messageBytes : ℕ

@@ -5,6 +5,7 @@ ghost use Rattle.ring.specs.Levels.{levelOf};
 ghost use Rattle.ring.specs.inner.Rows.{row};
 
 pub struct Level {
+    pub number: u32,
     pub r: usize,
     pub d: usize,
     pub t: usize,
@@ -20,27 +21,30 @@ pub fn known(level: u32) -> bool
     level == 1 || level == 3
 }
 
+// The row of a level; that of the first where the level is unknown.
 pub fn level_of(level: u32) -> Level
     ensures { λ l. ⌜ row l ≡ levelOf level ⌝ }
 {
-    if level == 1 {
+    if level == 3 {
         return Level {
-            r: 12323,
-            d: 71,
-            t: 134,
-            slope: 69722,
-            offset: 135300000,
+            number: 3,
+            r: 24659,
+            d: 103,
+            t: 199,
+            slope: 52650,
+            offset: 152588000,
             divisor: 10000000,
-            least: 36,
+            least: 52,
         };
     }
     Level {
-        r: 24659,
-        d: 103,
-        t: 199,
-        slope: 52650,
-        offset: 152588000,
+        number: 1,
+        r: 12323,
+        d: 71,
+        t: 134,
+        slope: 69722,
+        offset: 135300000,
         divisor: 10000000,
-        least: 52,
+        least: 36,
     }
 }

@@ -4,4 +4,13 @@ use Rattle.ring.specs.declared.level
 
 unfoldable pub row : level.Level.Level → Level
 row l =
-    record { r = l .r; d = l .d; t = l .t; slope = l .slope; offset = l .offset; divisor = l .divisor; least = l .least }
+    record {
+      number = l .number;
+      r = l .r;
+      d = l .d;
+      t = l .t;
+      slope = l .slope;
+      offset = l .offset;
+      divisor = l .divisor;
+      least = l .least;
+    }

@@ -1,17 +1,30 @@
--- `level_of` picks the row of the level.
-use borrow.Author.Tests.{eq-eqb, ne-eqb}
-use Rattle.ring.specs.Levels.{level1, level3, levelOf}
+-- `level_of` picks the row of the level, and the first row where there is none.
+use mathlib.Core.Path.{_≡_, refl, sym}
+use mathlib.Core.Bool.{Bool, true, false}
+use Prim.Native.Nat.{ℕ}
+use lib.Dec.{eqb}
+use borrow.Author.Tests.{ne-eqb}
+use Rattle.ring.specs.Levels.{Level, level1, level3, table, rowIn, levelOf}
 use Rattle.ring.specs.inner.Rows.{row}
 use Rattle.ring.proofs.level.level_of.Statement.{statement}
 use Rattle.ring.proofs.level.level_of.Tie as tie
 
+-- all others
+first : (level : ℕ) → eqb level 3 ≡ false → levelOf level ≡ level1
+unfolding levelOf rowIn table level1 level3
+first level other = go (eqb level 1)
+  where
+    go : (t : Bool) → elim t [ true ↦ level1 | false ↦ elim (eqb level 3) [ true ↦ level3 | false ↦ level1 ] ] ≡ level1
+    go true = refl
+    go false = rw other
+
 returns : tie.Need-returns
-unfolding row levelOf level1
-returns c = rw (eq-eqb _ _ (c .if1 .taken), levelOf)
+unfolding row levelOf rowIn table level1 level3
+returns c = rw (c .if1 .taken)
 
 returns-2 : tie.Need-returns-2
-unfolding row levelOf level3
-returns-2 c = rw (ne-eqb _ _ (c .if1 .left), levelOf)
+unfolding row level1
+returns-2 c = sym (first _ (ne-eqb _ _ (c .if1 .left)))
 
 pub level-of-spec : {M : Type 1} → statement M
 level-of-spec = tie.close (tie.spec returns returns-2)
