@@ -1,5 +1,5 @@
--- Laws of answers, for every entry of every crate: what settles where nothing applies and where something does, what an answer 0
--- says, and that a promise admits just one outcome. Assumes nothing.
+-- Laws of answers, for every entry of every crate: what settles where nothing applies and where something does, what an
+-- answer 0 says, and that a promise admits just one outcome. Assumes nothing.
 use mathlib.Core.Path.{_≡_, refl, sym, _∙_}
 use mathlib.Core.Bool.{Bool, true, false}
 use mathlib.Core.List.{List, [], _∷_, _++_, map}
@@ -94,8 +94,8 @@ module _ (before : List Reason) (last : Reason) (real : Numbered before) (none :
   unfolding firstOf
   last-clear so = first-after before (last ∷ []) real none ∙ rw (so, firstOf)
 
--- A promise is an equation of the outcome with a function of the inputs. So two outcomes that keep it for the same input are the
--- same: one answer, and one content for each output.
+-- A promise is an equation of the outcome with a function of the inputs. So two outcomes that keep it for the same input are
+-- the same: one answer, and one content for each output.
 pub one-outcome : {said : Outcome} {r r′ : ℕ} {outs outs′ : List (List ℕ)} → gives r outs ≡ said → gives r′ outs′ ≡ said
     → (r ≡ r′) × (outs ≡ outs′)
 one-outcome p q = (cc, cc)

@@ -1,4 +1,4 @@
--- What a judge that finds nothing says of the polynomials, and that a judge of one polynomial is one of two. Assumes nothing.
+-- What a judge that finds nothing says of the polynomials; a judge of one polynomial is one of two. Assumes nothing.
 use mathlib.Core.Path.{_≡_, refl, ap, _∙_}
 use mathlib.Core.Bool.{Bool, true, false, _||_}
 use mathlib.Core.List.{List}

@@ -14,8 +14,8 @@ use crate::words::funnel;
 use crate::words::place;
 use crate::words::word;
 
-// A row of the table: a polynomial's words and one for what u·b has above them, with 7 words of 0 on each side. So a row that is moved up by
-// m words, for m below 8, is the same row read from m words further left.
+// A row of the table: a polynomial's words and one for what u·b has above them, with 7 words of 0 on each side. So a row
+// that is moved up by m words, for m below 8, is the same row read from m words further left.
 const ROW: usize = WORDS + 15;
 
 const TABLE: usize = 64 * ROW;

@@ -47,7 +47,7 @@ module _ (rate : ℕ) (pos : 0 < rate) where
       let enough : n ≤ blocks * rate = omega (arith, div-add-mod' (n + rate - 1) rate, mod-lt (n + rate - 1) pos) in
       ap (take n) (squeezed-at S blocks) ∙ take-tab n (blocks * rate) (byteAt rate S) enough
 
-  -- of an output, for the callers too: its length, its first bytes, those that follow the first n, and that they are bytes
+  -- of an output, for the callers too: its length, its first bytes, those after the first n, and that they are bytes
   pub sponge-length : (suffix : ℕ) (M : List ℕ) (n : ℕ) → length (sponge rate suffix M n) ≡ n
   sponge-length suffix M n = rw (sponge-at suffix M n) (length-tab n (byteAt rate (soaked rate suffix M)))
 

@@ -1,5 +1,5 @@
--- The largest sizes, for the code's arrays and loops: three numbers that follow the level table, and all others from these. No public
--- promise cites this file. Assumes nothing.
+-- The largest sizes, for the code's arrays and loops: three numbers that follow the level table, and all others from these.
+-- No public promise cites this file. Assumes nothing.
 use Prim.Native.Nat.{ℕ, _+_, _*_, _/_}
 use Rattle.ring.specs.Levels.{messageBytes, tailBytes}
 
@@ -31,8 +31,8 @@ twiceBits = 2 * wordBits
 abbrev pub rowsBits : ℕ
 rowsBits = 3 * wordBits
 
--- The dense product: a row of its table has one word more than a polynomial, and 7 words of 0 on each side; where row 1 has the
--- polynomial; the passes of eight words; the words of a product before it is reduced.
+-- The dense product: a row of its table has one word more than a polynomial, and 7 words of 0 on each side; where row 1 has
+-- the polynomial; the passes of eight words; the words of a product before it is reduced.
 abbrev pub rowWords : ℕ
 rowWords = words + 15
 

@@ -22,7 +22,7 @@ wide n a b k = over n a (λ i. shifted i b k)
 abbrev pub Outside : ℕ → ℕ → List ℕ → List ℕ → Type 0
 Outside at n x y = (i : ℕ) → (i < at) ⊎ (at + n ≤ i) → getD y i 0 ≡ getD x i 0
 
--- The comb's table t of multiples of b, its first n rows: row u is u times b (u's bits are coefficients) after 7 words of 0.
+-- The comb's table t of multiples of b, its first n rows: after 7 words of 0, row u is u times b, u's bits as coefficients.
 abbrev pub Multiples : Poly → ℕ → List ℕ → Type 0
 Multiples b n t = (u k : ℕ) → u < n → k < 64 * rowWords → bits 64 t (64 * (rowWords * u) + k) ≡ shifted 448 (wide 6 (bitAt u) b) k
 
