@@ -1,6 +1,6 @@
 -- The judge of a product goes down document 01's column.
 use mathlib.Core.Path.{_≡_, ap, sym, _∙_}
-use Prim.Native.Nat.{ℕ}
+use mathlib.Core.Bool.{true, false, _||_}
 use lib.ListN.{length}
 use borrow.Author.Needs.{needs}
 use Rattle.hashing.specs.Answers.{differs, firstOf}
@@ -32,10 +32,14 @@ lengths c =
     let n = c .before .before .polynomial .ensures ∙ ap byteLength (sym (c .block .ensures)) in
     (agree _ _ (each .0) ∙ n, agree _ _ (each .1) ∙ n)
 
-returns-3 : tie.Need-returns-3
+-- level and lengths are right: the pads decide
+pads : (c : tie.After-pad-set2) →
+    let args = c .before .before .before .before .before .before .before .before .before .args in
+    firstOf (product-reasons (args .level) (args .a .now) (args .b .now) (args .room))
+    ≡ elim (c .before .pad-set .result || c .pad-set2 .result) [ true ↦ 3 | false ↦ 0 ]
 unfolding product-reasons firstOf differs
-returns-3 c =
-    let row = c .before .before .before in
+pads c =
+    let row = c .before .before in
     let level = row .before .before .before in
     rw (
       ← level .before .known .ensures,
@@ -43,25 +47,8 @@ returns-3 c =
       ← row .before .before .polynomial .ensures,
       row .before .if2 .left,
       ← row .block .ensures,
-      ← c .before .before .pad-set .ensures,
-      ← c .before .pad-set2 .ensures,
-      c .if3 .taken,
-    )
-
-returns-4 : tie.Need-returns-4
-unfolding product-reasons firstOf differs
-returns-4 c =
-    let row = c .before .before .before in
-    let level = row .before .before .before in
-    rw (
-      ← level .before .known .ensures,
-      level .if1 .left,
-      ← row .before .before .polynomial .ensures,
-      row .before .if2 .left,
-      ← row .block .ensures,
-      ← c .before .before .pad-set .ensures,
-      ← c .before .pad-set2 .ensures,
-      c .if3 .left,
+      ← c .before .pad-set .ensures,
+      ← c .pad-set2 .ensures,
     )
 
 pub judge-product-spec : {M : Type 1} → statement M
@@ -75,5 +62,5 @@ judge-product-spec =
     (λ c κs. search needs)
     (λ c κs. lengths c .0)
     (λ c κs. lengths (c .before) .1)
-    returns-3
-    returns-4)
+    (λ c. sym (rw (c .if3 .taken) at (pads (c .before))))
+    (λ c. sym (rw (c .if3 .left) at (pads (c .before)))))
