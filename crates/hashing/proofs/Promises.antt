@@ -5,9 +5,10 @@ use Prim.Native.Nat.{ℕ}
 use Rattle.hashing.specs.Promises.{Shake256Promise, Sha3-384Promise}
 use Rattle.hashing.proofs.Answers.{one-output}
 
-module _ (M : List ℕ) (room : ℕ) {r r′ : ℕ} {out out′ : List ℕ} where
-  pub shake256-just-one : Shake256Promise M room r out → Shake256Promise M room r′ out′ → (r ≡ r′) × (out ≡ out′)
-  shake256-just-one = one-output
+pub shake256-just-one : (M : List ℕ) (room : ℕ) {r r′ : ℕ} {out out′ : List ℕ}
+    → Shake256Promise M room r out → Shake256Promise M room r′ out′ → (r ≡ r′) × (out ≡ out′)
+shake256-just-one M room = one-output
 
-  pub sha3-384-just-one : Sha3-384Promise M room r out → Sha3-384Promise M room r′ out′ → (r ≡ r′) × (out ≡ out′)
-  sha3-384-just-one = one-output
+pub sha3-384-just-one : (M : List ℕ) (room : ℕ) {r r′ : ℕ} {out out′ : List ℕ}
+    → Sha3-384Promise M room r out → Sha3-384Promise M room r′ out′ → (r ≡ r′) × (out ≡ out′)
+sha3-384-just-one M room = one-output

@@ -5,10 +5,10 @@ use Prim.Native.Nat.{ℕ}
 use Rattle.hashing.proofs.Answers.{one-output}
 use Rattle.ring.specs.Promises.{ProductPromise, InversePromise}
 
-module _ (level : ℕ) (a : List ℕ) (room : ℕ) {r r′ : ℕ} {out out′ : List ℕ} where
-  pub product-just-one : (b : List ℕ) → ProductPromise level a b room r out → ProductPromise level a b room r′ out′
-      → (r ≡ r′) × (out ≡ out′)
-  product-just-one b = one-output
+pub product-just-one : (level : ℕ) (a b : List ℕ) (room : ℕ) {r r′ : ℕ} {out out′ : List ℕ}
+    → ProductPromise level a b room r out → ProductPromise level a b room r′ out′ → (r ≡ r′) × (out ≡ out′)
+product-just-one level a b room = one-output
 
-  pub inverse-just-one : InversePromise level a room r out → InversePromise level a room r′ out′ → (r ≡ r′) × (out ≡ out′)
-  inverse-just-one = one-output
+pub inverse-just-one : (level : ℕ) (a : List ℕ) (room : ℕ) {r r′ : ℕ} {out out′ : List ℕ}
+    → InversePromise level a room r out → InversePromise level a room r′ out′ → (r ≡ r′) × (out ≡ out′)
+inverse-just-one level a room = one-output

@@ -1,8 +1,7 @@
 -- SHA3-384 is the sponge's digest where its judge finds nothing.
-use mathlib.Core.Path.{_≡_, sym, _∙_}
+use mathlib.Core.Path.{sym, _∙_}
 use lib.Dec.{lit<}
 use borrow.Author.Needs.{needs}
-use Rattle.hashing.specs.Answers.{firstOf}
 use Rattle.hashing.specs.Promises.{sha3-384-reasons, sha3-384-says}
 use Rattle.hashing.specs.Sponge.{sha3-384}
 use Rattle.hashing.proofs.Answers.{agree, clear, done, refused}

@@ -1,5 +1,5 @@
 -- `known` tests the numbers of the table.
-use mathlib.Core.Path.{_≡_, sym}
+use mathlib.Core.Path.{sym}
 use mathlib.Core.Bool.{or-false}
 use borrow.Author.Tests.{eq-eqb, ne-eqb}
 use Rattle.ring.specs.Levels.{level1, level3, table, known}

@@ -4,7 +4,7 @@ use mathlib.Core.Bool.{Bool, true, false}
 use Prim.Native.Nat.{ℕ}
 use lib.Dec.{eqb}
 use borrow.Author.Tests.{ne-eqb}
-use Rattle.ring.specs.Levels.{Level, level1, level3, table, rowIn, levelOf}
+use Rattle.ring.specs.Levels.{level1, level3, table, rowIn, levelOf}
 use Rattle.ring.specs.inner.Rows.{row}
 use Rattle.ring.proofs.level.level_of.Statement.{statement}
 use Rattle.ring.proofs.level.level_of.Tie as tie
