@@ -1,70 +1,99 @@
 -- What key making, wrapping and opening in turn come to, from what each promises. Assumes nothing.
 use mathlib.Core.Path.{_≡_, refl, sym, ap, _∙_}
-use mathlib.Core.Bool.{Bool, true, false}
+use mathlib.Core.Bool.{Bool, true, false, not}
 use mathlib.Core.List.{List, [], _∷_, _++_}
 use mathlib.Core.Logic.{_⊎_, inl, inr}
 use Prim.Native.Nat.{ℕ, _≤_}
 use native.Mathlib.Omega.{arith}
+use borrow.Author.Tests.{not-false}
+use lib.Dec.{lit<}
 use lib.ListN.{length, replicate, length-append}
-use borrow.Author.Tests.{eq-eqb}
-use Rattle.hashing.specs.Answers.{Outcome, firstOf, content, settle}
+use Rattle.hashing.specs.Answers.{firstOf}
 use Rattle.hashing.specs.Answers.Outcome.{gives}
 use Rattle.hashing.specs.Lists.{bits}
-use Rattle.hashing.proofs.Answers.{just-one}
-use Rattle.ring.specs.Levels.{known, levelOf, messageBytes, polyBytes, ciphertextBytes, privateBytes}
+use Rattle.hashing.proofs.Answers.{Numbered, agree, clear, done, refused, last-applies, last-clear, one-outcome, one-output, two-outputs}
+use Rattle.ring.specs.Levels.{known, levelOf, messageBytes, seedBytes, ciphertextBytes}
 use Rattle.ring.specs.Polynomials.{Poly, hasInverse}
+use Rattle.ring.proofs.Bools.{both-false}
 use Rattle.ring.proofs.Layouts.{bits-bytesOf}
 use Rattle.ring.proofs.Levels.{r-pos}
 use Rattle.ring.proofs.Ring.{mul-in}
 use Rattle.exchange.specs.Fits.{FromKeyMaking, Bytes, WellFormed, Fits}
 use Rattle.exchange.specs.Opening.{opened}
 use Rattle.exchange.specs.decoder.Decoder.{bgf}
-use Rattle.exchange.specs.Promises.{seedBytes, differs, make-key-says, wrap-says, open-says}
-use Rattle.exchange.specs.Scheme.{hashK, h0Of, publicOf, wrapped}
+use Rattle.exchange.specs.Promises.{MakeKeyPromise, making-reasons, make-key-says, wrap-says, open-says}
+use Rattle.exchange.specs.Scheme.{hashK, h0Of, publicOf, privateOf, wrapped}
 use Rattle.exchange.proofs.Demand.{wrapped-well-formed}
+use Rattle.exchange.proofs.Judged.{MakingClear, making-none, making-numbered}
 use Rattle.exchange.proofs.Pairs.{made-of, wraps, opens, Demand3, demand-3}
-use Rattle.exchange.proofs.keys.Laws.{no-keys, both-keys}
-use Rattle.both_ends.specs.BothEnds.{privateOf, sentTo, both-ends-says, Finds, Agree}
-
--- one outcome, seen from two sides
-pub one-output : {a b : ℕ} {x y : List ℕ} → gives a (x ∷ []) ≡ gives b (y ∷ []) → (a ≡ b) × (x ≡ y)
-one-output e = (cc, cc)
-
-pub two-outputs : {a b : ℕ} {x y u v : List ℕ} → gives a (x ∷ y ∷ []) ≡ gives b (u ∷ v ∷ []) → (a ≡ b) × (x ≡ u) × (y ≡ v)
-two-outputs e = (cc, cc, cc)
+use Rattle.both_ends.specs.BothEnds.{sentTo, both-ends-reasons, both-ends-says, BothEndsPromise, Finds, Agree}
 
 -- a front is not longer than the whole
 pub front-fits : (xs ys : List ℕ) {n : ℕ} → length xs ≡ n → n ≤ length (xs ++ ys)
 front-fits xs ys long = omega (arith, long, length-append xs ys)
 
--- what is to be given where the level is known and the lengths are right
-module _ (level : ℕ) (seed m : List ℕ) (roomSent roomOpened : ℕ) (level-known : known level ≡ true) (seed-long : length seed ≡ seedBytes)
-    (m-long : length m ≡ messageBytes) (sent-long : roomSent ≡ messageBytes) (opened-long : roomOpened ≡ messageBytes) where
+-- what it says that the judge finds nothing
+pub record Clear (level : ℕ) (seed m : List ℕ) (roomSent roomOpened : ℕ) : Type 0 where
+  pub levelKnown : known level ≡ true
+  pub seedSize : length seed ≡ seedBytes
+  pub messageSize : length m ≡ messageBytes
+  pub sentRoom : roomSent ≡ messageBytes
+  pub openedRoom : roomOpened ≡ messageBytes
+
+module _ {level : ℕ} {seed m : List ℕ} {roomSent roomOpened : ℕ} where
+  pub clear-of : firstOf (both-ends-reasons level seed m roomSent roomOpened) ≡ 0 → Clear level seed m roomSent roomOpened
+  unfolding both-ends-reasons
+  clear-of none =
+      let first = clear _ _ (lit< tt) none in
+      let second = clear _ _ (lit< tt) (first .1) in
+      let two = both-false _ _ (second .0) in
+      let one = both-false _ _ (two .0) in
+      let zero = both-false _ _ (one .0) in
+      record {
+        levelKnown = not-false _ (first .0);
+        seedSize = agree _ _ (zero .0);
+        messageSize = agree _ _ (zero .1);
+        sentRoom = agree _ _ (one .1);
+        openedRoom = agree _ _ (two .1);
+      }
+
+-- what is to be given then
+module _ (level : ℕ) (seed m : List ℕ) (roomSent roomOpened : ℕ) (none : firstOf (both-ends-reasons level seed m roomSent roomOpened) ≡ 0) where
+  numbered : Numbered (both-ends-reasons level seed m roomSent roomOpened)
+  unfolding both-ends-reasons
+  numbered = (lit< tt, (lit< tt, tt))
+
   pub no-ends : hasInverse (levelOf level .r) (h0Of (levelOf level) seed) ≡ false
       → both-ends-says level seed m roomSent roomOpened ≡ gives 5 (replicate roomSent 0 ∷ replicate roomOpened 0 ∷ [])
-  unfolding both-ends-says settle firstOf content differs
-  no-ends none =
-      rw (level-known, eq-eqb _ _ seed-long, eq-eqb _ _ m-long, eq-eqb _ _ sent-long, eq-eqb _ _ opened-long, none)
+  unfolding both-ends-says
+  no-ends missing =
+      let five = last-applies _ (record { applies = _; number = 5 }) numbered none (ap not missing) in refused _ _ (sym five) (λ e. omega arith)
 
   pub ends : hasInverse (levelOf level .r) (h0Of (levelOf level) seed) ≡ true →
       let c = sentTo (levelOf level) seed m in
       both-ends-says level seed m roomSent roomOpened ≡ gives 0 (hashK m c ∷ opened bgf (levelOf level) (privateOf (levelOf level) seed) c ∷ [])
-  unfolding both-ends-says settle firstOf content differs
-  ends there =
-      rw (level-known, eq-eqb _ _ seed-long, eq-eqb _ _ m-long, eq-eqb _ _ sent-long, eq-eqb _ _ opened-long, there)
+  unfolding both-ends-says
+  ends there = done _ _ (last-clear _ (record { applies = _; number = 5 }) numbered none (ap not there))
 
 -- key making answers 5 exactly if h0 has no inverse, and else 0
-module _ (level : ℕ) (seed public private : List ℕ) (made : ℕ) (level-known : known level ≡ true) (seed-long : length seed ≡ seedBytes)
-    (public-long : length public ≡ polyBytes (levelOf level)) (private-long : length private ≡ privateBytes (levelOf level))
-    (says : gives made (public ∷ private ∷ []) ≡ make-key-says level seed (length public) (length private)) where
+module _ (level : ℕ) (seed public private : List ℕ) (made : ℕ) (judged : MakingClear level seed (length public) (length private))
+    (says : MakeKeyPromise level seed (length public) (length private) made public private) where
+  none : firstOf (making-reasons level seed (length public) (length private)) ≡ 0
+  none = making-none judged
+
   pub made-or-not :
       let there = hasInverse (levelOf level .r) (h0Of (levelOf level) seed) in
       ((there ≡ true) × (made ≡ 0)) ⊎ ((there ≡ false) × (made ≡ 5))
+  unfolding make-key-says
   made-or-not = go (hasInverse (levelOf level .r) (h0Of (levelOf level) seed)) refl
     where
       go : (t : Bool) → hasInverse (levelOf level .r) (h0Of (levelOf level) seed) ≡ t → ((t ≡ true) × (made ≡ 0)) ⊎ ((t ≡ false) × (made ≡ 5))
-      go true e = inl (refl, two-outputs (says ∙ both-keys level seed _ _ level-known seed-long public-long private-long e) .0)
-      go false e = inr (refl, two-outputs (says ∙ no-keys level seed _ _ level-known seed-long public-long private-long e) .0)
+      go true e =
+          let clear = last-clear _ (record { applies = _; number = 5 }) (making-numbered level seed (length public) (length private)) none (ap not e) in
+          inl (refl, one-outcome says (sym (done _ _ clear)) .0)
+      go false e =
+          let five = last-applies _ (record { applies = _; number = 5 }) (making-numbered level seed (length public) (length private)) none (ap not e) in
+          inr (refl, one-outcome says (sym (refused _ _ (sym five) (λ q. omega arith))) .0)
 
 pub unmade : {t : Bool} {number : ℕ} → ((t ≡ true) × (number ≡ 0)) ⊎ ((t ≡ false) × (number ≡ 5)) → (number ≡ 0 → ⊥) → (t ≡ false) × (number ≡ 5)
 unmade (inl there) refused = absurd (refused (there .1))
@@ -82,7 +111,6 @@ module _ (level : ℕ) (seed m public private : List ℕ) (pair : FromKeyMaking 
       ∙ bits-bytesOf (levelOf level .r) (mul-in (levelOf level .r) (r-pos level) _ _)
 
   private-is : private ≡ privateOf (levelOf level) seed
-  unfolding privateOf
   private-is = made-of level seed public private pair .privateIs
 
   wrapped-is : wrapped (levelOf level) (bits 8 public) m ≡ sentTo (levelOf level) seed m
@@ -111,21 +139,21 @@ module _ (level : ℕ) (seed m public private : List ℕ) (pair : FromKeyMaking 
   fits found =
       rw private-is (record { message = message; wraps = wrapped-is; decodes = found .decodes; finds = found .finds })
 
-  pub agree :
+  pub ends-agree :
       let c = sentTo (levelOf level) seed m in
       Agree (levelOf level) seed m (hashK m c) (opened bgf (levelOf level) (privateOf (levelOf level) seed) c)
-  agree =
+  ends-agree =
       record {
-        same = λ found. one-output (sym controller ∙ demand .if-one-fits m (fits found) .1) .1;
+        same = λ found. one-output (sym controller) (sym (demand .if-one-fits m (fits found) .1)) .1;
         another = λ n fit.
-            one-output (sym controller ∙ demand .if-one-fits n (rw (made-of level seed public private pair .publicIs, private-is) fit) .1) .1;
+            one-output (sym controller) (sym (demand .if-one-fits n (rw (made-of level seed public private pair .publicIs, private-is) fit) .1)) .1;
         substitute = λ none.
-            one-output
-            (sym controller
-            ∙ demand .if-none-fits (λ n fit. none n (rw (made-of level seed public private pair .publicIs, private-is) at fit))) .1;
+            one-output (sym controller)
+            (sym (demand .if-none-fits (λ n fit. none n (rw (made-of level seed public private pair .publicIs, private-is) at fit)))) .1;
       }
 
 -- the promise admits just one outcome
-pub both-ends-just-one : (level : ℕ) (seed m : List ℕ) (roomSent roomOpened : ℕ) {one other : Outcome}
-    → one ≡ both-ends-says level seed m roomSent roomOpened → other ≡ both-ends-says level seed m roomSent roomOpened → one ≡ other
-both-ends-just-one level seed m roomSent roomOpened = just-one (both-ends-says level seed m roomSent) roomOpened
+pub both-ends-just-one : (level : ℕ) (seed m : List ℕ) (roomSent roomOpened : ℕ) {r r′ : ℕ} {sent sent′ opened opened′ : List ℕ}
+    → BothEndsPromise level seed m roomSent roomOpened r sent opened → BothEndsPromise level seed m roomSent roomOpened r′ sent′ opened′
+    → (r ≡ r′) × (sent ≡ sent′) × (opened ≡ opened′)
+both-ends-just-one level seed m roomSent roomOpened = two-outputs

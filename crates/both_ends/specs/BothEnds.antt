@@ -1,41 +1,45 @@
 -- What both ends of an exchange hold in the end: of a seed, by key making, and of a message that is wrapped and opened. Assumes nothing.
 use mathlib.Core.Path.{_≡_}
 use mathlib.Core.Bool.{false, not, _||_}
-use mathlib.Core.List.{List, [], _∷_}
+use mathlib.Core.List.{List, [], _∷_, _++_}
 use Prim.Native.Nat.{ℕ}
 use lib.ListN.{length}
-use Rattle.hashing.specs.Answers.{Outcome, settle}
+use Rattle.hashing.specs.Answers.{Reason, Outcome, differs, settle}
+use Rattle.hashing.specs.Answers.Outcome.{gives}
 use Rattle.ring.specs.Bytes.{bytesOf}
-use Rattle.ring.specs.Levels.{Level, known, levelOf, messageBytes}
+use Rattle.ring.specs.Levels.{Level, known, levelOf, messageBytes, seedBytes}
 use Rattle.ring.specs.Polynomials.{hasInverse}
 use Rattle.exchange.specs.decoder.Decoder.{Decoder, bgf, failed}
 use Rattle.exchange.specs.decoder.PrivateKey.{secret}
 use Rattle.exchange.specs.Fits.{Fits}
 use Rattle.exchange.specs.Opening.{syndromeOf, opened}
-use Rattle.exchange.specs.Promises.{seedBytes, differs}
-use Rattle.exchange.specs.Scheme.{hashH, hashK, h0Of, h1Of, sigmaOf, publicOf, privateKey, wrapped}
+use Rattle.exchange.specs.Scheme.{hashH, hashK, h0Of, sigmaOf, publicOf, privateOf, wrapped}
 
--- the controller's private key, and what the app sends
-unfoldable pub privateOf : Level → List ℕ → List ℕ
-privateOf l seed = privateKey (l .r) (h0Of l seed) (h1Of l seed) (sigmaOf seed)
-
+-- what the app sends
 unfoldable pub sentTo : Level → List ℕ → List ℕ → List ℕ
 sentTo l seed m = wrapped l (publicOf l seed) m
 
 -- 1, 2, and 5 as in key making; else the key of each end
+unfoldable pub both-ends-reasons : ℕ → List ℕ → List ℕ → ℕ → ℕ → List Reason
+both-ends-reasons level seed m roomSent roomOpened =
+    record { applies = not (known level); number = 1 }
+    ∷ record {
+      applies = differs (length seed) seedBytes || differs (length m) messageBytes || differs roomSent messageBytes || differs roomOpened messageBytes;
+      number = 2;
+    }
+    ∷ []
+
 unfoldable pub both-ends-says : ℕ → List ℕ → List ℕ → ℕ → ℕ → Outcome
 both-ends-says level seed m roomSent roomOpened =
     let l = levelOf level in
     let c = sentTo l seed m in
     settle
-    (record { applies = not (known level); number = 1 }
-    ∷ record {
-      applies = differs (length seed) seedBytes || differs (length m) messageBytes || differs roomSent messageBytes || differs roomOpened messageBytes;
-      number = 2;
-    }
-    ∷ record { applies = not (hasInverse (l .r) (h0Of l seed)); number = 5 }
-    ∷ [])
+    (both-ends-reasons level seed m roomSent roomOpened ++ (record { applies = not (hasInverse (l .r) (h0Of l seed)); number = 5 } ∷ []))
     (record { room = roomSent; value = hashK m c } ∷ record { room = roomOpened; value = opened bgf l (privateOf l seed) c } ∷ [])
+
+abbrev pub BothEndsPromise : ℕ → List ℕ → List ℕ → ℕ → ℕ → ℕ → List ℕ → List ℕ → Type 0
+BothEndsPromise level seed m roomSent roomOpened r sent opened =
+    gives r (sent ∷ opened ∷ []) ≡ both-ends-says level seed m roomSent roomOpened
 
 -- "the decoder finds the message's error"
 pub record Finds (decoder : Decoder) (l : Level) (seed m : List ℕ) : Type 0 where

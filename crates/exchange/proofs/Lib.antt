@@ -1,6 +1,6 @@
 pub mod Demand
 pub mod Errors
-pub mod Lengths
+pub mod Judged
 pub mod Making
 pub mod Pairs
 pub mod Parts

@@ -16,7 +16,7 @@ use Rattle.ring.specs.Polynomials.{Poly, InRing, rising, weight, bit, listed, s
 use Rattle.ring.proofs.Bools.{both-true}
 use Rattle.ring.specs.Bytes.{littleEndian, numbers}
 use Rattle.ring.specs.Levels.{Level}
-use Rattle.exchange.specs.decoder.PrivateKey.{positions0, positions1, sigma, secret, risingFrom}
+use Rattle.exchange.specs.decoder.PrivateKey.{positions0, positions1, tail, secret, risingFrom}
 use Rattle.exchange.specs.Scheme.{twoBytes, privateKey}
 
 -- two bytes read back
@@ -121,9 +121,9 @@ module _ (l : Level) (a b : Poly) (last : List ℕ) (wa : weight (l .r) a ≡ l 
       drop-at (twoBytes (rising (l .r) a)) (twoBytes (rising (l .r) b) ++ last) (2 * l .d) (length-twoBytes (rising (l .r) a) ∙ ap (_*_ 2) size0) in
       rw after (subst (λ n. numbers 2 n (twoBytes (rising (l .r) b) ++ last) ≡ rising (l .r) b) size1 (numbers-back (rising (l .r) b) last))
 
-  pub sigma-back : sigma l (privateKey (l .r) a b last) ≡ last
-  unfolding sigma privateKey
-  sigma-back =
+  pub tail-back : tail l (privateKey (l .r) a b last) ≡ last
+  unfolding tail privateKey
+  tail-back =
       let size : length (twoBytes (rising (l .r) a) ++ twoBytes (rising (l .r) b)) ≡ 2 * (l .d + l .d) =
       omega (arith, length-append (twoBytes (rising (l .r) a)) (twoBytes (rising (l .r) b)), length-twoBytes (rising (l .r) a), length-twoBytes (rising (l .r) b), size0, size1) in
       rw (← append-assoc (twoBytes (rising (l .r) a)) (twoBytes (rising (l .r) b)) last) (drop-at (twoBytes (rising (l .r) a) ++ twoBytes (rising (l .r) b)) last (2 * (l .d + l .d)) size)

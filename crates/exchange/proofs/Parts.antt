@@ -1,12 +1,15 @@
 -- Parts of a list: what a buffer holds that was written in two parts, and a part of a part. Assumes nothing.
-use mathlib.Core.Path.{_≡_, ap, ap₂, _∙_}
+use mathlib.Core.Path.{_≡_, sym, ap, ap₂, _∙_}
+use mathlib.Core.Bool.{false}
 use mathlib.Core.List.{List, [], _++_, append-nil}
-use Prim.Native.Nat.{ℕ, _+_, _-_, _≤_}
+use Prim.Native.Nat.{ℕ, _+_, _-_, _≤_, _<_}
 use native.Mathlib.Nat.{le-of-eq, zero-add}
 use native.Mathlib.Omega.{arith}
-use lib.ListN.{length, take, drop, drop-of-length-le, length-drop, length-take}
-use lib.Seq.{sets, sets-eq, length-take-le, take-all, take-at, drop-at, take-add}
-use Rattle.ring.specs.Bytes.{byteLength, bytesOf}
+use lib.ListN.{length, take, drop, replicate, drop-of-length-le, length-drop, length-take, length-replicate, getD-replicate}
+use lib.Seq.{sets, sets-eq, length-take-le, take-all, take-at, drop-at, take-add, ext-getD}
+use Rattle.hashing.specs.Lists.{tab}
+use Rattle.hashing.proofs.Lists.{length-tab, getD-tab}
+use Rattle.ring.specs.Bytes.{number, listOf, byteLength, bytesOf}
 use Rattle.ring.specs.Polynomials.{Poly}
 use Rattle.ring.proofs.Layouts.{bytesOf-length}
 
@@ -35,3 +38,14 @@ front-long n xs same room = length-take-le n xs (rw same room)
 -- what was written to the front of a list stands there
 pub front-set : (list old : List ℕ) {n : ℕ} → length list ≡ n → length list ≤ length old → take n (sets old 0 list) ≡ list
 front-set list old long room = rw (sets-eq list old 0 (rw (zero-add (length list)) room)) (take-at list _ _ long)
+
+-- the bytes of no error
+pub no-bytes : (r n : ℕ) → n ≡ byteLength r → bytesOf r (λ k. false) ≡ replicate n 0
+unfolding bytesOf listOf number
+no-bytes r n long =
+    let none : ℕ → ℕ = λ i. 0 in
+    rw long
+    (ext-getD 0 (tab (byteLength r) none) (replicate (byteLength r) 0) (length-tab (byteLength r) none ∙ sym (length-replicate (byteLength r) 0))
+    (λ i below.
+    let within : i < byteLength r = rw (length-tab (byteLength r) none) at below in
+    getD-tab (byteLength r) none 0 i within ∙ sym (getD-replicate (byteLength r) i 0 0 within)))

@@ -5,15 +5,14 @@ use mathlib.Core.List.{List, [], _∷_}
 use Prim.Native.Nat.{ℕ, _+_, _-_, _/_, _%_, _≤_, _<_}
 use lib.Dec.{leb, ltb, eqb}
 use lib.ListN.{length, getD, take, drop}
-use Rattle.hashing.specs.Answers.{Outcome, settle}
+use Rattle.hashing.specs.Answers.{Reason, Outcome, differs, settle}
 use Rattle.hashing.specs.Answers.Outcome.{gives}
-use Rattle.ring.specs.Levels.{Level, known, levelOf, messageBytes, polyBytes, ciphertextBytes, privateBytes}
+use Rattle.ring.specs.Levels.{Level, known, levelOf, messageBytes, seedBytes, polyBytes, ciphertextBytes, privateBytes}
 use Rattle.exchange.specs.declared.record.Line.{Line}
 use Rattle.exchange.specs.declared.record.Reading.{Reading}
 use Rattle.exchange.specs.declared.record.Reading.the-variants.{Good, Short, UnknownKind, WrongLength}
 use Rattle.exchange.specs.declared.record.Thing.{Thing}
 use Rattle.exchange.specs.declared.record.Thing.the-variants.{Seed, PublicKey, PrivateKey, Ciphertext, Message, SessionKey}
-use Rattle.exchange.specs.Promises.{seedBytes, differs}
 use Rattle.ring.specs.Bytes.{littleEndian}
 
 -- "Things: 1 seed, 2 public key, 3 private key, 4 ciphertext, 5 message, 6 session key"
@@ -49,17 +48,23 @@ unfoldable pub knownKind : ℕ → Bool
 knownKind kind = known (kind / 256) && (leb 1 (kind % 256) && leb (kind % 256) 6)
 
 -- reading a record: "the body starts at byte 6 and further bytes are not looked at"
+unfoldable pub record-reasons : List ℕ → List Reason
+record-reasons bytes =
+    let body = bodyOf bytes in
+    let kind = kindOf bytes in
+    record { applies = ltb (length bytes) 6 || ltb (length bytes - 6) body; number = 7 }
+    ∷ record { applies = not (knownKind kind); number = 8 }
+    ∷ record { applies = differs body (bodyBytes (levelOf (kind / 256)) (kind % 256)); number = 9 }
+    ∷ []
+
 unfoldable pub read-record-says : List ℕ → Outcome
 read-record-says bytes =
-    let body = bodyOf bytes in
-    let level = kindOf bytes / 256 in
-    let thing = kindOf bytes % 256 in
-    settle
-    (record { applies = ltb (length bytes) 6 || ltb (length bytes - 6) body; number = 7 }
-    ∷ record { applies = not (knownKind (kindOf bytes)); number = 8 }
-    ∷ record { applies = differs body (bodyBytes (levelOf level) thing); number = 9 }
-    ∷ [])
-    (record { room = 3; value = level ∷ thing ∷ body ∷ [] } ∷ [])
+    let kind = kindOf bytes in
+    settle (record-reasons bytes) (record { room = 3; value = kind / 256 ∷ kind % 256 ∷ bodyOf bytes ∷ [] } ∷ [])
+
+-- the reading is an enum, whose outcome is this
+abbrev pub RecordPromise : List ℕ → Reading → Type 0
+RecordPromise bytes reading = outcomeOf reading ≡ read-record-says bytes
 
 -- listrecords: "answer, level, thing, body bytes (0 0 0 on refusal)" of the record from byte `at` on, and where the next one begins;
 -- "up to the end or the first refusal", so a refusal moves to the end

@@ -36,9 +36,13 @@ unfoldable pub twoBytes : List ℕ → List ℕ
 twoBytes [] = []
 twoBytes (p ∷ rest) = p % 256 ∷ p / 256 ∷ twoBytes rest
 
--- "Private key: d positions of h0, d positions of h1 ..; then sigma"
+-- "Private key: d positions of h0, d positions of h1 ..; then sigma", which is the tail
 unfoldable pub privateKey : ℕ → Poly → Poly → List ℕ → List ℕ
-privateKey r h0 h1 sigma = twoBytes (rising r h0) ++ (twoBytes (rising r h1) ++ sigma)
+privateKey r h0 h1 tail = twoBytes (rising r h0) ++ (twoBytes (rising r h1) ++ tail)
+
+-- the private key of a seed
+abbrev pub privateOf : Level → List ℕ → List ℕ
+privateOf l seed = privateKey (l .r) (h0Of l seed) (h1Of l seed) (sigmaOf seed)
 
 -- "H(m): SHAKE256 of m, 4t bytes, len 2r, weight t; position p below r is bit p of e0, else bit p − r of e1"
 unfoldable pub errorPositions : Level → List ℕ → List ℕ

@@ -1,9 +1,6 @@
-// The doors that C calls, on a level and byte slices: each slice is a pointer and a length.
-ghost use mathlib.Core.Path.{_≡_};
-ghost use mathlib.Core.List.{[], _∷_};
+// The doors that C calls, on a level and byte slices: each slice is a pointer and a length. A door keeps its entry's promise.
 ghost use lib.ListN.{length};
-ghost use Rattle.hashing.specs.Answers.Outcome.{gives};
-ghost use Rattle.exchange.specs.Promises.{make-key-says, wrap-says, open-says};
+ghost use Rattle.exchange.specs.Promises.{MakeKeyPromise, WrapPromise, OpenPromise};
 
 #[no_mangle]
 pub extern "C" fn bike_make_key(
@@ -12,9 +9,8 @@ pub extern "C" fn bike_make_key(
     public_key: &mut [u8],
     private_key: &mut [u8],
 ) -> u32
-    ensures { λ r.
-        ⌜ gives r (now («public_key» .exit) ∷ now («private_key» .exit) ∷ [])
-        ≡ make-key-says level (now (seed .entry)) (length (now («public_key» .entry))) (length (now («private_key» .entry))) ⌝ }
+    ensures { λ r. ⌜ MakeKeyPromise level (now (seed .entry)) (length (now («public_key» .entry))) (length (now («private_key» .entry)))
+        r (now («public_key» .exit)) (now («private_key» .exit)) ⌝ }
 {
     crate::make_key(level, seed, public_key, private_key)
 }
@@ -27,9 +23,8 @@ pub extern "C" fn bike_wrap(
     ciphertext: &mut [u8],
     session_key: &mut [u8],
 ) -> u32
-    ensures { λ r.
-        ⌜ gives r (now (ciphertext .exit) ∷ now («session_key» .exit) ∷ [])
-        ≡ wrap-says level (now («public_key» .entry)) (now (message .entry)) (length (now (ciphertext .entry))) (length (now («session_key» .entry))) ⌝ }
+    ensures { λ r. ⌜ WrapPromise level (now («public_key» .entry)) (now (message .entry)) (length (now (ciphertext .entry)))
+        (length (now («session_key» .entry))) r (now (ciphertext .exit)) (now («session_key» .exit)) ⌝ }
 {
     crate::wrap(level, public_key, message, ciphertext, session_key)
 }
@@ -41,9 +36,8 @@ pub extern "C" fn bike_open(
     ciphertext: &[u8],
     session_key: &mut [u8],
 ) -> u32
-    ensures { λ r.
-        ⌜ gives r (now («session_key» .exit) ∷ [])
-        ≡ open-says level (now («private_key» .entry)) (now (ciphertext .entry)) (length (now («session_key» .entry))) ⌝ }
+    ensures { λ r. ⌜ OpenPromise level (now («private_key» .entry)) (now (ciphertext .entry)) (length (now («session_key» .entry)))
+        r (now («session_key» .exit)) ⌝ }
 {
     crate::open(level, private_key, ciphertext, session_key)
 }

@@ -3,6 +3,8 @@ use crate::sampler;
 use hashing::fill;
 use hashing::sponge;
 use ring::size;
+use ring::size::MOST_T;
+use ring::size::WORDS;
 ghost use mathlib.Core.Path.{_≡_};
 ghost use mathlib.Core.Bool.{_&&_, _||_};
 ghost use Prim.Native.Nat.{_+_, _*_, _≤_};
@@ -10,32 +12,37 @@ ghost use lib.Dec.{eqb, ltb};
 ghost use lib.ListN.{length, take};
 ghost use Rattle.hashing.specs.Lists.{bits};
 ghost use Rattle.hashing.specs.Sponge.{shake256};
+ghost use Rattle.ring.specs.inner.Sizes.{errorBytes, mostT, wordBytes};
 ghost use Rattle.ring.specs.Bytes.{byteLength, bytesOf};
 ghost use Rattle.ring.specs.Levels.{levelOf, polyBytes};
 ghost use Rattle.ring.specs.Polynomials.{listed};
 ghost use Rattle.exchange.specs.Scheme.{errorPositions, hashH};
 
+const STREAM: usize = 4 * MOST_T;
+
+const BYTES: usize = 8 * WORDS;
+
 // Room for the positions of the largest level, for the words that they come from, and for the bytes of a half.
-fn no_positions() -> [u32; 199]
-    ensures { λ r. ⌜ 199 ≡ length r ⌝ }
+fn no_positions() -> [u32; MOST_T]
+    ensures { λ r. ⌜ mostT ≡ length r ⌝ }
 {
-    [0; 199]
+    [0; MOST_T]
 }
 
-fn no_words() -> [u8; 796]
-    ensures { λ r. ⌜ 796 ≡ length r ⌝ }
+fn no_words() -> [u8; STREAM]
+    ensures { λ r. ⌜ errorBytes ≡ length r ⌝ }
 {
-    [0; 796]
+    [0; STREAM]
 }
 
-pub fn no_bytes() -> [u8; 3083]
-    ensures { λ r. ⌜ 3083 ≡ length r ⌝ }
+pub fn no_bytes() -> [u8; BYTES]
+    ensures { λ r. ⌜ wordBytes ≡ length r ⌝ }
 {
-    [0; 3083]
+    [0; BYTES]
 }
 
 // The stream of the message: 4t bytes.
-fn stream(level: u32, message: &[u8]) -> [u8; 796]
+fn stream(level: u32, message: &[u8]) -> [u8; STREAM]
     ensures { λ r. ⌜ take (4 * levelOf level .t) r ≡ shake256 (now (message .entry)) (4 * levelOf level .t) ⌝ }
 {
     let n = 4 * size::error_weight(level);
@@ -50,7 +57,7 @@ fn stream(level: u32, message: &[u8]) -> [u8; 796]
 }
 
 // The t positions of the error, at the front of the list.
-fn positions(level: u32, message: &[u8]) -> [u32; 199]
+fn positions(level: u32, message: &[u8]) -> [u32; MOST_T]
     ensures { λ r. ⌜ take (levelOf level .t) r ≡ errorPositions (levelOf level) (now (message .entry)) ⌝ }
 {
     let t = size::error_weight(level);
@@ -104,13 +111,13 @@ pub fn hash_h(level: u32, message: &[u8], e0: &mut [u8], e1: &mut [u8])
     place(&list[..t], r, r, e1);
 }
 
-pub struct Halves {
-    pub e0: [u8; 3083],
-    pub e1: [u8; 3083],
+pub struct ErrorBytes {
+    pub e0: [u8; BYTES],
+    pub e1: [u8; BYTES],
 }
 
 // H by value: each half at the front of its array.
-pub fn halves_of(level: u32, message: &[u8]) -> Halves
+pub fn halves_of(level: u32, message: &[u8]) -> ErrorBytes
     ensures { λ e.
         ⌜ (take (polyBytes (levelOf level)) (e .e0) ≡ bytesOf (levelOf level .r) (hashH (levelOf level) (now (message .entry)) .half0))
         × (take (polyBytes (levelOf level)) (e .e1) ≡ bytesOf (levelOf level .r) (hashH (levelOf level) (now (message .entry)) .half1)) ⌝ }
@@ -119,5 +126,5 @@ pub fn halves_of(level: u32, message: &[u8]) -> Halves
     let mut e0 = no_bytes();
     let mut e1 = no_bytes();
     hash_h(level, message, &mut e0[..n], &mut e1[..n]);
-    Halves { e0, e1 }
+    ErrorBytes { e0, e1 }
 }

@@ -1,7 +1,6 @@
 // Key making: two sparse polynomials from a seed, the quotient that is public, and the positions that are kept.
 use crate::bytes;
 use crate::error;
-use crate::refuse;
 use crate::sampler;
 use hashing::sponge;
 use ring::WORDS;
@@ -9,43 +8,47 @@ use ring::invert;
 use ring::multiply;
 use ring::positions;
 use ring::size;
+use ring::size::MOST_D;
 use ring::words;
 ghost use mathlib.Core.Path.{_≡_};
 ghost use mathlib.Core.Bool.{true};
-ghost use mathlib.Core.List.{[], _∷_, _++_};
+ghost use mathlib.Core.List.{_++_};
 ghost use Prim.Native.Nat.{_+_, _*_, _≤_};
 ghost use lib.ListN.{length, take};
-ghost use Rattle.hashing.specs.Answers.Outcome.{gives};
+ghost use Rattle.hashing.specs.Answers.{firstOf};
 ghost use Rattle.hashing.specs.Lists.{bits};
-ghost use Rattle.ring.specs.Levels.{known, levelOf, polyBytes, privateBytes};
+ghost use Rattle.ring.specs.inner.Sizes.{keyStreamBytes, mostD};
+ghost use Rattle.ring.specs.Levels.{levelOf};
 ghost use Rattle.ring.specs.Polynomials;
-ghost use Rattle.ring.specs.Polynomials.{InRing, weight, support};
-ghost use Rattle.exchange.specs.Promises.{seedBytes, make-key-says};
-ghost use Rattle.ring.specs.Bytes.{numbers};
+ghost use Rattle.ring.specs.Polynomials.{InRing, weight, hasInverse, support};
+ghost use Rattle.exchange.specs.Promises.{making-reasons};
+ghost use Rattle.ring.specs.Bytes.{bytesOf, numbers};
 ghost use Rattle.exchange.specs.Sampler.{sampleKey};
-ghost use Rattle.exchange.specs.Scheme.{keyStream, h0Of, h1Of, sigmaOf, twoBytes, privateKey};
+ghost use Rattle.exchange.specs.Scheme.{keyStream, h0Of, h1Of, publicOf, privateOf, twoBytes, privateKey};
+
+const STREAM: usize = 8 * MOST_D;
 
 // Room for the largest level: the words of both halves, and one half as positions and as exponents.
-fn no_words() -> [u8; 824]
-    ensures { λ r. ⌜ 824 ≡ length r ⌝ }
+fn no_words() -> [u8; STREAM]
+    ensures { λ r. ⌜ keyStreamBytes ≡ length r ⌝ }
 {
-    [0; 824]
+    [0; STREAM]
 }
 
-fn no_positions() -> [u32; 103]
-    ensures { λ r. ⌜ 103 ≡ length r ⌝ }
+fn no_positions() -> [u32; MOST_D]
+    ensures { λ r. ⌜ mostD ≡ length r ⌝ }
 {
-    [0; 103]
+    [0; MOST_D]
 }
 
-fn no_exponents() -> [u16; 103]
-    ensures { λ r. ⌜ 103 ≡ length r ⌝ }
+fn no_exponents() -> [u16; MOST_D]
+    ensures { λ r. ⌜ mostD ≡ length r ⌝ }
 {
-    [0; 103]
+    [0; MOST_D]
 }
 
 // The stream of the seed's first half: 8d bytes.
-fn stream(level: u32, seed: &[u8]) -> [u8; 824]
+fn stream(level: u32, seed: &[u8]) -> [u8; STREAM]
     requires { ⌜ 32 ≤ length (now seed) ⌝ }
     ensures { λ r. ⌜ take (8 * levelOf level .d) r ≡ keyStream (levelOf level) (now (seed .entry)) ⌝ }
 {
@@ -61,7 +64,7 @@ fn stream(level: u32, seed: &[u8]) -> [u8; 824]
 }
 
 // The d positions of one half, at the front of the list.
-fn sampled(level: u32, stream: &[u8]) -> [u32; 103]
+fn sampled(level: u32, stream: &[u8]) -> [u32; MOST_D]
     requires { ⌜ 4 * levelOf level .d ≤ length (now stream) ⌝ }
     ensures { λ r. ⌜ take (levelOf level .d) r
         ≡ sampleKey (levelOf level .r) (levelOf level .d) (numbers 4 (levelOf level .d) (now (stream .entry))) ⌝ }
@@ -86,13 +89,13 @@ fn half(level: u32, stream: &[u8]) -> [u64; WORDS]
     words::load(&bytes[..n])
 }
 
-pub struct Halves {
+pub struct KeyWords {
     pub h0: [u64; WORDS],
     pub h1: [u64; WORDS],
 }
 
 // h0 from the first 4d bytes of the stream, h1 from the next 4d.
-fn both_halves(level: u32, seed: &[u8]) -> Halves
+fn both_halves(level: u32, seed: &[u8]) -> KeyWords
     requires { ⌜ 32 ≤ length (now seed) ⌝ }
     ensures { λ h. ⌜ (bits 64 (h .h0) ≡ h0Of (levelOf level) (now (seed .entry)))
         × (bits 64 (h .h1) ≡ h1Of (levelOf level) (now (seed .entry))) ⌝ }
@@ -100,14 +103,14 @@ fn both_halves(level: u32, seed: &[u8]) -> Halves
     let n = 8 * size::key_weight(level);
     let middle = n / 2;
     let words = stream(level, seed);
-    Halves {
+    KeyWords {
         h0: half(level, &words[..n]),
         h1: half(level, &words[middle..n]),
     }
 }
 
 // The exponents of a half, at the front of the list.
-fn exponents(level: u32, h: [u64; WORDS]) -> [u16; 103]
+fn exponents(level: u32, h: [u64; WORDS]) -> [u16; MOST_D]
     requires { ⌜ InRing (levelOf level .r) (bits 64 h) ⌝ ∗ ⌜ weight (levelOf level .r) (bits 64 h) ≡ levelOf level .d ⌝ }
     ensures { λ p. ⌜ take (levelOf level .d) p ≡ Polynomials.rising (levelOf level .r) (bits 64 h) ⌝ }
 {
@@ -139,36 +142,37 @@ fn write_half(level: u32, h: [u64; WORDS], out: &mut [u8])
     write_numbers(&list[..d], out);
 }
 
-// The second half, then sigma.
-fn write_rest(level: u32, h: [u64; WORDS], sigma: &[u8], out: &mut [u8])
-    requires { ⌜ length (now out) ≡ 2 * levelOf level .d + length (now sigma) ⌝
+// A half, then the tail.
+fn write_rest(level: u32, h: [u64; WORDS], tail: &[u8], out: &mut [u8])
+    requires { ⌜ length (now out) ≡ 2 * levelOf level .d + length (now tail) ⌝
         ∗ ⌜ InRing (levelOf level .r) (bits 64 h) ⌝ ∗ ⌜ weight (levelOf level .r) (bits 64 h) ≡ levelOf level .d ⌝ }
-    ensures { λ _. ⌜ now (out .exit) ≡ twoBytes (Polynomials.rising (levelOf level .r) (bits 64 h)) ++ now (sigma .entry) ⌝ }
+    ensures { λ _. ⌜ now (out .exit) ≡ twoBytes (Polynomials.rising (levelOf level .r) (bits 64 h)) ++ now (tail .entry) ⌝ }
 {
     let n = 2 * size::key_weight(level);
     write_half(level, h, &mut out[..n]);
-    bytes::copy(sigma, &mut out[n..]);
+    bytes::copy(tail, &mut out[n..]);
 }
 
-fn write_private(level: u32, seed: &[u8], h: Halves, out: &mut [u8])
-    requires { ⌜ (length (now seed) ≡ seedBytes) × (length (now out) ≡ privateBytes (levelOf level)) ⌝
-        ∗ ⌜ (bits 64 (h .h0) ≡ h0Of (levelOf level) (now seed)) × (bits 64 (h .h1) ≡ h1Of (levelOf level) (now seed)) ⌝ }
-    ensures { λ _. ⌜ now (out .exit) ≡ privateKey (levelOf level .r)
-        (h0Of (levelOf level) (now (seed .entry))) (h1Of (levelOf level) (now (seed .entry))) (sigmaOf (now (seed .entry))) ⌝ }
+// A private key: two halves of weight d, and what follows their positions.
+pub fn write_private(level: u32, h: KeyWords, tail: &[u8], out: &mut [u8])
+    requires { ⌜ length (now out) ≡ 2 * (levelOf level .d + levelOf level .d) + length (now tail) ⌝
+        ∗ ⌜ InRing (levelOf level .r) (bits 64 (h .h0)) × InRing (levelOf level .r) (bits 64 (h .h1)) ⌝
+        ∗ ⌜ (weight (levelOf level .r) (bits 64 (h .h0)) ≡ levelOf level .d) × (weight (levelOf level .r) (bits 64 (h .h1)) ≡ levelOf level .d) ⌝ }
+    ensures { λ _. ⌜ now (out .exit) ≡ privateKey (levelOf level .r) (bits 64 (h .h0)) (bits 64 (h .h1)) (now (tail .entry)) ⌝ }
 {
     let n = 2 * size::key_weight(level);
     let h0 = h.h0;
     let h1 = h.h1;
     write_half(level, h0, &mut out[..n]);
-    write_rest(level, h1, &seed[32..], &mut out[n..]);
+    write_rest(level, h1, tail, &mut out[n..]);
 }
 
-// Key making for buffers of the level's lengths.
-pub fn make(level: u32, seed: &[u8], public_key: &mut [u8], private_key: &mut [u8]) -> u32
-    requires { ⌜ (known level ≡ true) × (length (now seed) ≡ seedBytes)
-        × (length (now «public_key») ≡ polyBytes (levelOf level)) × (length (now «private_key») ≡ privateBytes (levelOf level)) ⌝ }
-    ensures { λ r. ⌜ gives r (now («public_key» .exit) ∷ now («private_key» .exit) ∷ [])
-        ≡ make-key-says level (now (seed .entry)) (length (now («public_key» .entry))) (length (now («private_key» .entry))) ⌝ }
+// Key making, once it is judged: whether h0 has an inverse, and the keys if it has.
+pub fn write(level: u32, seed: &[u8], public_key: &mut [u8], private_key: &mut [u8]) -> bool
+    requires { ⌜ firstOf (making-reasons level (now seed) (length (now «public_key»)) (length (now «private_key»))) ≡ 0 ⌝ }
+    ensures { λ r. ⌜ (r ≡ hasInverse (levelOf level .r) (h0Of (levelOf level) (now (seed .entry))))
+        × (r ≡ true → (now («public_key» .exit) ≡ bytesOf (levelOf level .r) (publicOf (levelOf level) (now (seed .entry))))
+        × (now («private_key» .exit) ≡ privateOf (levelOf level) (now (seed .entry)))) ⌝ }
 {
     let r = size::block(level);
     let h = both_halves(level, seed);
@@ -176,10 +180,10 @@ pub fn make(level: u32, seed: &[u8], public_key: &mut [u8], private_key: &mut [u
     let h1 = h.h1;
     let inverse = invert::invert(r, h0);
     if !inverse.exists {
-        return refuse(5, public_key, private_key);
+        return false;
     }
     let value = inverse.value;
     words::store(multiply::multiply(r, h1, value), public_key);
-    write_private(level, seed, h, private_key);
-    0
+    write_private(level, h, &seed[32..], private_key);
+    true
 }

@@ -2,6 +2,7 @@
 use crate::bytes;
 use crate::decoder::Key;
 use crate::decoder::find;
+use crate::decoder::read_key;
 use crate::digest::digest32;
 use crate::digest::no_digest;
 use crate::error;
@@ -15,18 +16,20 @@ ghost use mathlib.Core.Bool.{true, false};
 ghost use mathlib.Core.List.{_++_};
 ghost use Prim.Native.Nat.{_≤_};
 ghost use lib.ListN.{length, take, drop};
+ghost use Rattle.hashing.specs.Answers.{firstOf};
 ghost use Rattle.hashing.specs.Lists.{bits};
 ghost use Rattle.hashing.specs.Sponge.{sha3-384};
 ghost use Rattle.ring.specs.Bytes.{bytesOf};
 ghost use Rattle.ring.specs.Levels.{levelOf, messageBytes, polyBytes, ciphertextBytes};
 ghost use Rattle.ring.specs.Polynomials.{InRing, Tells, mul};
-ghost use Rattle.exchange.specs.Opening.{either, keyFor};
-ghost use Rattle.exchange.specs.decoder.Decoder.{bgf, found};
+ghost use Rattle.exchange.specs.Opening.{either, keyFor, opened};
+ghost use Rattle.exchange.specs.Promises.{opening-reasons};
+ghost use Rattle.exchange.specs.decoder.Decoder.{bgf};
 ghost use Rattle.exchange.specs.Scheme.{xorBytes};
 ghost use Rattle.exchange.specs.inner.Working.{keyOf, Good};
 
 // An error's bytes, each half at the front of its array.
-fn stored(level: u32, e0: [u64; WORDS], e1: [u64; WORDS]) -> error::Halves
+fn stored(level: u32, e0: [u64; WORDS], e1: [u64; WORDS]) -> error::ErrorBytes
     ensures { λ e. ⌜ (take (polyBytes (levelOf level)) (e .e0) ≡ bytesOf (levelOf level .r) (bits 64 e0))
         × (take (polyBytes (levelOf level)) (e .e1) ≡ bytesOf (levelOf level .r) (bits 64 e1)) ⌝ }
 {
@@ -35,11 +38,11 @@ fn stored(level: u32, e0: [u64; WORDS], e1: [u64; WORDS]) -> error::Halves
     let mut b1 = error::no_bytes();
     words::store(e0, &mut b0[..n]);
     words::store(e1, &mut b1[..n]);
-    error::Halves { e0: b0, e1: b1 }
+    error::ErrorBytes { e0: b0, e1: b1 }
 }
 
 // m' = c1 xor L(e')
-fn message_of(level: u32, e: error::Halves, ciphertext: &[u8]) -> [u8; 32]
+fn message_of(level: u32, e: error::ErrorBytes, ciphertext: &[u8]) -> [u8; 32]
     requires { ⌜ length (now ciphertext) ≡ ciphertextBytes (levelOf level) ⌝
         ∗ ⌜ (polyBytes (levelOf level) ≤ length (e .e0)) × (polyBytes (levelOf level) ≤ length (e .e1)) ⌝ }
     ensures { λ m. ⌜ m ≡ xorBytes (drop (polyBytes (levelOf level)) (now (ciphertext .entry)))
@@ -55,7 +58,7 @@ fn message_of(level: u32, e: error::Halves, ciphertext: &[u8]) -> [u8; 32]
 }
 
 // Both halves are compared in every byte.
-fn same_error(level: u32, e: error::Halves, f: error::Halves) -> bool
+fn same_error(level: u32, e: error::ErrorBytes, f: error::ErrorBytes) -> bool
     requires { ⌜ (polyBytes (levelOf level) ≤ length (e .e0)) × (polyBytes (levelOf level) ≤ length (e .e1))
         × (polyBytes (levelOf level) ≤ length (f .e0)) × (polyBytes (levelOf level) ≤ length (f .e1)) ⌝ }
     ensures { λ t. ⌜ Tells t ((take (polyBytes (levelOf level)) (e .e0) ≡ take (polyBytes (levelOf level)) (f .e0))
@@ -118,18 +121,25 @@ fn syndrome(level: u32, key: Key, c0: [u64; WORDS]) -> [u64; WORDS]
     sparse(size::block(level), &h0, size::key_weight(level), c0)
 }
 
-// Opening under a good key.
-pub fn write(level: u32, key: Key, sigma: &[u8], ciphertext: &[u8], session_key: &mut [u8]) -> u32
-    requires { ⌜ (length (now sigma) ≡ messageBytes) × (length (now ciphertext) ≡ ciphertextBytes (levelOf level)) × (length (now «session_key») ≡ messageBytes) ⌝
-        ∗ ⌜ Good (levelOf level) key ⌝ ∗ ⌜ InRing (levelOf level .r) (bits 8 (take (polyBytes (levelOf level)) (now ciphertext))) ⌝ }
-    ensures { λ r. ⌜ (r ≡ 0) × (now («session_key» .exit) ≡ keyFor (levelOf level) (now (sigma .entry)) (now (ciphertext .entry))
-        (found bgf (levelOf level) (keyOf (levelOf level) key)
-        (mul (levelOf level .r) (bits 8 (take (polyBytes (levelOf level)) (now (ciphertext .entry)))) (keyOf (levelOf level) key .half0)))) ⌝ }
+// Opening, once it is judged.
+pub fn write(level: u32, private_key: &[u8], ciphertext: &[u8], session_key: &mut [u8]) -> u32
+    requires { ⌜ firstOf (opening-reasons level (now «private_key») (now ciphertext) (length (now «session_key»))) ≡ 0 ⌝ }
+    ensures { λ r. ⌜ (r ≡ 0) × (now («session_key» .exit) ≡ opened bgf (levelOf level) (now («private_key» .entry)) (now (ciphertext .entry))) ⌝ }
 {
     let n = size::polynomial(level);
+    let at = 4 * size::key_weight(level);
+    let end = at + size::MESSAGE;
+    let key = read_key(level, private_key);
     let s = syndrome(level, key, words::load(&ciphertext[..n]));
     let e = find(level, key, s);
     let e0 = e.e0;
     let e1 = e.e1;
-    write_session_key(level, e0, e1, sigma, ciphertext, session_key)
+    write_session_key(
+        level,
+        e0,
+        e1,
+        &private_key[at..end],
+        ciphertext,
+        session_key,
+    )
 }

@@ -6,7 +6,7 @@ ghost use mathlib.Core.Path.{_≡_};
 ghost use Prim.Native.Nat.{_≤_, _<_};
 ghost use lib.ListN.{length};
 ghost use Rattle.ring.specs.Levels.{levelOf};
-ghost use Rattle.exchange.specs.Records.{thingNumber, bodyBytes, knownKind, outcomeOf, read-record-says, Lists};
+ghost use Rattle.exchange.specs.Records.{thingNumber, bodyBytes, knownKind, RecordPromise, Lists};
 
 pub enum Thing {
     Seed,
@@ -73,7 +73,7 @@ fn known_kind(kind: u32) -> bool
 
 // The length that a record states is compared with what is there before anything is added to it: it may be 2^32 - 1.
 pub fn read_record(bytes: &[u8]) -> Reading
-    ensures { λ r. ⌜ outcomeOf r ≡ read-record-says (now (bytes .entry)) ⌝ }
+    ensures { λ r. ⌜ RecordPromise (now (bytes .entry)) r ⌝ }
 {
     if bytes.len() < 6 {
         return Reading::Short;

@@ -2,36 +2,35 @@
 use crate::bytes;
 use crate::digest::digest32;
 use crate::error;
-use crate::refuse;
 use ring::WORDS;
-use ring::layout;
 use ring::positions;
 use ring::size;
+use ring::size::MOST_T;
 use ring::sparse::sparse;
 use ring::words;
 ghost use mathlib.Core.Path.{_≡_};
-ghost use mathlib.Core.Bool.{true};
-ghost use mathlib.Core.List.{[], _∷_, _++_};
+ghost use mathlib.Core.List.{_++_};
 ghost use Prim.Native.Nat.{_≤_};
 ghost use lib.ListN.{length, take};
-ghost use Rattle.hashing.specs.Answers.Outcome.{gives};
+ghost use Rattle.hashing.specs.Answers.{firstOf};
 ghost use Rattle.hashing.specs.Lists.{bits};
 ghost use Rattle.hashing.specs.Sponge.{sha3-384};
+ghost use Rattle.ring.specs.inner.Sizes.{mostT};
 ghost use Rattle.ring.specs.Bytes.{bytesOf};
-ghost use Rattle.ring.specs.Levels.{known, levelOf, messageBytes, polyBytes, ciphertextBytes};
+ghost use Rattle.ring.specs.Levels.{levelOf, messageBytes, polyBytes, ciphertextBytes};
 ghost use Rattle.ring.specs.Polynomials.{InRing, add, mul, weight};
-ghost use Rattle.exchange.specs.Promises.{wrap-says};
+ghost use Rattle.exchange.specs.Promises.{wrapping-reasons};
 ghost use Rattle.exchange.specs.Scheme.{hashK, xorBytes, wrapped};
 
-fn no_exponents() -> [u16; 199]
-    ensures { λ p. ⌜ 199 ≡ length p ⌝ }
+fn no_exponents() -> [u16; MOST_T]
+    ensures { λ p. ⌜ mostT ≡ length p ⌝ }
 {
-    [0; 199]
+    [0; MOST_T]
 }
 
 // e1·h, over the exponents of e1: an error has few.
 fn error_times(level: u32, e1: [u64; WORDS], h: [u64; WORDS]) -> [u64; WORDS]
-    requires { ⌜ InRing (levelOf level .r) (bits 64 e1) × (weight (levelOf level .r) (bits 64 e1) ≤ 199) × InRing (levelOf level .r) (bits 64 h) ⌝ }
+    requires { ⌜ InRing (levelOf level .r) (bits 64 e1) × (weight (levelOf level .r) (bits 64 e1) ≤ mostT) × InRing (levelOf level .r) (bits 64 h) ⌝ }
     ensures { λ p. ⌜ bits 64 p ≡ mul (levelOf level .r) (bits 64 e1) (bits 64 h) ⌝ }
 {
     let r = size::block(level);
@@ -43,7 +42,7 @@ fn error_times(level: u32, e1: [u64; WORDS], h: [u64; WORDS]) -> [u64; WORDS]
 // c0 = e0 + e1·h
 fn write_c0(level: u32, e0: [u64; WORDS], e1: [u64; WORDS], h: [u64; WORDS], out: &mut [u8])
     requires { ⌜ length (now out) ≡ polyBytes (levelOf level) ⌝ ∗ ⌜ InRing (levelOf level .r) (bits 64 e0) ⌝
-        ∗ ⌜ InRing (levelOf level .r) (bits 64 e1) × (weight (levelOf level .r) (bits 64 e1) ≤ 199) × InRing (levelOf level .r) (bits 64 h) ⌝ }
+        ∗ ⌜ InRing (levelOf level .r) (bits 64 e1) × (weight (levelOf level .r) (bits 64 e1) ≤ mostT) × InRing (levelOf level .r) (bits 64 h) ⌝ }
     ensures { λ _. ⌜ now (out .exit) ≡ bytesOf (levelOf level .r) (add (bits 64 e0) (mul (levelOf level .r) (bits 64 e1) (bits 64 h))) ⌝ }
 {
     let r = size::block(level);
@@ -84,23 +83,18 @@ pub fn write_key(message: &[u8], ciphertext: &[u8], out: &mut [u8])
     bytes::copy(&key, out);
 }
 
-// Wrapping for buffers of the level's lengths.
-pub fn make(
+// Wrapping, once it is judged.
+pub fn write(
     level: u32,
     public_key: &[u8],
     message: &[u8],
     ciphertext: &mut [u8],
     session_key: &mut [u8],
-) -> u32
-    requires { ⌜ (known level ≡ true) × (length (now «public_key») ≡ polyBytes (levelOf level)) × (length (now message) ≡ messageBytes)
-        × (length (now ciphertext) ≡ ciphertextBytes (levelOf level)) × (length (now «session_key») ≡ messageBytes) ⌝ }
-    ensures { λ r. ⌜ gives r (now (ciphertext .exit) ∷ now («session_key» .exit) ∷ [])
-        ≡ wrap-says level (now («public_key» .entry)) (now (message .entry)) (length (now (ciphertext .entry))) (length (now («session_key» .entry))) ⌝ }
+)
+    requires { ⌜ firstOf (wrapping-reasons level (now «public_key») (now message) (length (now ciphertext)) (length (now «session_key»))) ≡ 0 ⌝ }
+    ensures { λ _. ⌜ (now (ciphertext .exit) ≡ wrapped (levelOf level) (bits 8 (now («public_key» .entry))) (now (message .entry)))
+        × (now («session_key» .exit) ≡ hashK (now (message .entry)) (wrapped (levelOf level) (bits 8 (now («public_key» .entry))) (now (message .entry)))) ⌝ }
 {
-    if layout::pad_set(size::block(level), public_key) {
-        return refuse(3, ciphertext, session_key);
-    }
     write_ciphertext(level, public_key, message, ciphertext);
     write_key(message, ciphertext, session_key);
-    0
 }

@@ -94,6 +94,14 @@ module _ (before : List Reason) (last : Reason) (real : Numbered before) (none :
   unfolding firstOf
   last-clear so = first-after before (last ∷ []) real none ∙ rw (so, firstOf)
 
+-- and an answer 0 of both says that none of either applies
+pub all-clear : (before rest : List Reason) → Numbered before → firstOf (before ++ rest) ≡ 0 → (firstOf before ≡ 0) × (firstOf rest ≡ 0)
+unfolding firstOf
+all-clear [] rest real none = (refl, none)
+all-clear (reason ∷ before) rest real none =
+    let next = clear reason (before ++ rest) (real .0) none in
+    rw (next .0, firstOf) (all-clear before rest (real .1) (next .1))
+
 -- A promise is an equation of the outcome with a function of the inputs. So two outcomes that keep it for the same input are
 -- the same: one answer, and one content for each output.
 pub one-outcome : {said : Outcome} {r r′ : ℕ} {outs outs′ : List (List ℕ)} → gives r outs ≡ said → gives r′ outs′ ≡ said

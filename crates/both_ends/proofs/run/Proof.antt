@@ -1,5 +1,5 @@
 -- `run`: what each entry gives goes on to the next.
-use mathlib.Core.Path.{_≡_, sym, ap, ap₂, _∙_}
+use mathlib.Core.Path.{_≡_, refl, sym, ap, ap₂, _∙_}
 use mathlib.Core.Bool.{true, false}
 use mathlib.Core.List.{List, [], _∷_, _++_}
 use mathlib.Core.Logic.{_⊎_}
@@ -9,6 +9,7 @@ use lib.ListN.{length, take, drop}
 use lib.Seq.{length-take-le, take-at}
 use borrow.Author.Needs.{needs}
 use Rattle.hashing.specs.Answers.Outcome.{gives}
+use Rattle.hashing.proofs.Answers.{one-output, two-outputs}
 use Rattle.ring.specs.Levels.{levelOf, messageBytes, ciphertextBytes}
 use Rattle.ring.specs.Polynomials.{hasInverse}
 use Rattle.ring.proofs.Levels.{sizes}
@@ -16,8 +17,8 @@ use Rattle.exchange.specs.Fits.{FromKeyMaking, Bytes}
 use Rattle.exchange.specs.Opening.{opened}
 use Rattle.exchange.specs.decoder.Decoder.{bgf}
 use Rattle.exchange.specs.Promises.{make-key-says, wrap-says, open-says}
-use Rattle.exchange.specs.Scheme.{hashK, h0Of}
-use Rattle.both_ends.specs.BothEnds.{privateOf, sentTo}
+use Rattle.exchange.specs.Scheme.{hashK, h0Of, privateOf}
+use Rattle.both_ends.specs.BothEnds.{sentTo}
 use Rattle.both_ends.proofs.Laws
 use Rattle.both_ends.proofs.run.Statement.{statement}
 use Rattle.both_ends.proofs.run.Tie as tie
@@ -55,9 +56,14 @@ made-or-not : (c : tie.After-make-key) →
     ((there ≡ true) × (c .make-key .result ≡ 0)) ⊎ ((there ≡ false) × (c .make-key .result ≡ 5))
 made-or-not c =
     let start = c .before .before .before .before .before .before .before .before .before .before .before .before .before in
-    Laws.made-or-not (start .args .level) (start .args .seed .now) _ _ _ (start .pre .0) (start .pre .1)
-    (public-long c ∙ c .before .before .before .before .before .before .before .before .polynomial .ensures)
-    (private-long c ∙ c .before .before .before .before .before .before .before .private-key .ensures)
+    let is = Laws.clear-of (start .pre) in
+    Laws.made-or-not (start .args .level) (start .args .seed .now) _ _ _
+    (record {
+      levelKnown = is .levelKnown;
+      seedSize = is .seedSize;
+      publicRoom = public-long c ∙ c .before .before .before .before .before .before .before .before .polynomial .ensures;
+      privateRoom = private-long c ∙ c .before .before .before .before .before .before .before .private-key .ensures;
+    })
     (says c)
 
 returns : tie.Need-returns
@@ -67,9 +73,9 @@ returns c =
     let keys = tested .before .before .before in
     let start = keys .before .before .before .before .before .before .before .before .before .before .before .before .before in
     let none = Laws.unmade (made-or-not keys) (tested .if1 .taken) in
-    let answer = refused .refuse .ensures .0 ∙ none .1 in (
-      rw (answer, refused .refuse .ensures .1, refused .refuse .ensures .2)
-          (sym (Laws.no-ends (start .args .level) (start .args .seed .now) (start .args .message .now) _ _ (start .pre .0) (start .pre .1) (start .pre .2) (start .pre .3) (start .pre .4) (none .0))),
+    let answer = refused .two .ensures .0 ∙ none .1 in (
+      rw (answer, refused .two .ensures .1, refused .two .ensures .2)
+          (sym (Laws.no-ends (start .args .level) (start .args .seed .now) (start .args .message .now) _ _ (start .pre) (none .0))),
       λ done. absurd (omega (arith, answer, done)),
     )
 
@@ -84,7 +90,7 @@ pair c =
     ∙ ap (λ (a : ℕ). gives a (keys .make-key .last .1 .1 .0 ∷ keys .make-key .last .1 .1 .1 .0 ∷ [])) (c .if1 .left)
 
 message : (c : tie.After-slice-known2) → Bytes messageBytes (c .before .before .before .before .args .message .now)
-message c = record { size = c .before .before .before .before .pre .2; small = λ i. c .before .before .shared-slice-known2 .given i .fits }
+message c = record { size = Laws.clear-of (c .before .before .before .before .pre) .messageSize; small = λ i. c .before .before .shared-slice-known2 .given i .fits }
 
 -- the keys, lent as the front of their arrays
 public-lent : (c : tie.After-make-key) →
@@ -113,11 +119,12 @@ wrapped c =
     let start = known .before .before .before .before in
     let given = start .args in
     let room = length-take-le _ _ (room-ciphertext made) ∙ made .before .before .before .ciphertext .ensures in
-    Laws.two-outputs
+    two-outputs
     (c .wrap .ensures
     ∙ ap₂ (λ (h : List ℕ) (n : ℕ). wrap-says (given .level) h (given .message .now) n (length (given .sent .now))) (public-lent keys) room
-    ∙ ap (wrap-says (given .level) (keys .make-key .last .1 .1 .0) (given .message .now) (ciphertextBytes (levelOf (given .level)))) (start .pre .3)
+    ∙ ap (wrap-says (given .level) (keys .make-key .last .1 .1 .0) (given .message .now) (ciphertextBytes (levelOf (given .level)))) (Laws.clear-of (start .pre) .sentRoom)
     ∙ Laws.app (given .level) (given .seed .now) (given .message .now) _ _ (pair tested) (message known))
+    refl
 
 ciphertext-long : (c : tie.After-wrap) →
     length (c .wrap .last .1 .1 .1 .0) ≡ c .before .before .before .before .before .before .before .before .before .before .before .before .before .ciphertext .result
@@ -146,11 +153,12 @@ opens c =
     let known = keys .before .before .before .before .before .before .before .before .before in
     let start = known .before .before .before .before in
     let given = start .args in
-    Laws.one-output
+    one-output
     (c .«open» .ensures
     ∙ ap₂ (λ (key d : List ℕ). open-says (given .level) key d (length (given .opened .now))) (private-lent keys) (ciphertext-lent wrap ∙ wrapped wrap .1)
-    ∙ ap (open-says (given .level) (keys .make-key .last .1 .1 .1 .0) (sentTo (levelOf (given .level)) (given .seed .now) (given .message .now))) (start .pre .4)
+    ∙ ap (open-says (given .level) (keys .make-key .last .1 .1 .1 .0) (sentTo (levelOf (given .level)) (given .seed .now) (given .message .now))) (Laws.clear-of (start .pre) .openedRoom)
     ∙ Laws.controller (given .level) (given .seed .now) (given .message .now) _ _ (pair tested) (message known))
+    refl
 
 returns-2 : tie.Need-returns-2
 returns-2 c =
@@ -164,8 +172,8 @@ returns-2 c =
     let sent = wrapped wrap .2 in
     let own = opens last in
     let there = Laws.made (made-or-not keys) (tested .if1 .left) in (
-      rw (own .0, own .1, sent) (sym (Laws.ends (given .level) (given .seed .now) (given .message .now) _ _ (start .pre .0) (start .pre .1) (start .pre .2) (start .pre .3) (start .pre .4) there)),
-      λ done. rw (own .1, sent) (Laws.agree (given .level) (given .seed .now) (given .message .now) _ _ (pair tested) (message known)),
+      rw (own .0, own .1, sent) (sym (Laws.ends (given .level) (given .seed .now) (given .message .now) _ _ (start .pre) there)),
+      λ done. rw (own .1, sent) (Laws.ends-agree (given .level) (given .seed .now) (given .message .now) _ _ (pair tested) (message known)),
     )
 
 pub run-spec : {M : Type 1} → statement M

@@ -2,18 +2,19 @@
 use mathlib.Core.Path.{_≡_, refl, sym, ap, ap₂, _∙_, fun-ext}
 use mathlib.Core.Bool.{Bool, true, false, not, _&&_, and-false}
 use mathlib.Core.List.{List}
-use Prim.Native.Nat.{ℕ, zero, suc, _+_, _-_, _*_, _/_, _^_, _≤_, _<_}
+use Prim.Native.Nat.{ℕ, zero, suc, _+_, _-_, _*_, _/_, _≤_, _<_}
 use native.Mathlib.Decide.{decLt}
 use native.Mathlib.Nat.{not-suc-le-zero, add-sub-of-le, add-zero, le-add-right, le-trans, le-max-right}
 use native.Mathlib.Numerals.{add-one}
 use native.Mathlib.Omega.{arith}
 use borrow.Author.Tests.{le-ltb}
-use lib.Dec.{leb, ltb, lit<, lit≤}
+use lib.Dec.{leb, ltb}
 use lib.ListN.{length, getD, take}
-use Rattle.ring.specs.Levels.{Level, level1, level3, levelOf}
+use Rattle.ring.specs.inner.Sizes.{mostD, words}
+use Rattle.ring.specs.Levels.{Level, levelOf}
 use Rattle.ring.specs.Polynomials.{Poly, InRing, flip, add, weight, support}
 use Rattle.ring.proofs.Bools.{both-true}
-use Rattle.ring.proofs.Levels.{each, sizes}
+use Rattle.ring.proofs.Levels.{facts, sizes}
 use Rattle.ring.proofs.Ring
 use Rattle.exchange.specs.decoder.Decoder.{Decoder, Pair, counter, threshold, nothing, residual, passing, reaching, among, without, flipped, black, gray, round, maskedStep, step, after, bgf, failed, found}
 use Rattle.exchange.specs.decoder.PrivateKey.{positions0, positions1, secret, risingFrom, goodKey}
@@ -122,7 +123,7 @@ module _ (l : Level) (h : Pair) (s : Poly) (e : Pair) where
 pub in-words : (r : ℕ) {a : Poly} → InRing r a → InRing (64 * (r / 64 + 1)) a
 in-words r h k past = h k (omega arith)
 
-pub few-words : (level r : ℕ) → r ≡ levelOf level .r → r / 64 + 1 ≤ 386
+pub few-words : (level r : ℕ) → r ≡ levelOf level .r → r / 64 + 1 ≤ words
 few-words level r e = omega (arith, sizes level)
 
 -- and so does its weight
@@ -168,42 +169,22 @@ unfolding flipped among without add
 without-flipped a b =
     pair-path (fun-ext (λ k. flip-common (a .half0 k) (b .half0 k))) (fun-ext (λ k. flip-common (a .half1 k) (b .half1 k)))
 
--- the numbers of a threshold, whatever the weight
-pub record Bounds (l : Level) (s : ℕ) : Type 0 where
-  pub product : l .slope * s < 2 ^ 40
-  pub sum : l .slope * s + l .offset < 2 ^ 40
-  pub divides : 0 < l .divisor
-  pub quotient : (l .slope * s + l .offset) / l .divisor < 256
-  pub least : 3 ≤ l .floor
-  pub most : l .floor < 256
-
-pub bounds : (level s : ℕ) → s ≤ levelOf level .r → Bounds (levelOf level) s
-unfolding level1 level3
-bounds level s = each (λ l. s ≤ l .r → Bounds l s) one three level
-  where
-    one : s ≤ level1 .r → Bounds level1 s
-    one h =
-        record { product = omega arith; sum = omega arith; divides = lit< tt; quotient = omega arith; least = lit≤ tt; most = lit< tt }
-
-    three : s ≤ level3 .r → Bounds level3 s
-    three h =
-        record { product = omega arith; sum = omega arith; divides = lit< tt; quotient = omega arith; least = lit≤ tt; most = lit< tt }
-
 pub threshold-least : (level s : ℕ) → 3 ≤ threshold (levelOf level) s
-unfolding level1 level3 threshold
-threshold-least level s = each (λ l. 3 ≤ threshold l s) (le-trans (lit≤ tt) (le-max-right _ 36)) (le-trans (lit≤ tt) (le-max-right _ 52)) level
+unfolding threshold
+threshold-least level s = le-trans (facts level .bounds .least) (le-max-right _ (levelOf level .least))
 
 -- a key that was read from bytes: its polynomials, and what the test of its positions tells
 module _ (l : Level) (key : private_key.Key.Key) (bytes : List ℕ)
-    (read : ((length (key .h0) ≡ 103) × (take (l .d) (key .h0) ≡ positions0 l bytes)) × ((length (key .h1) ≡ 103) × (take (l .d) (key .h1) ≡ positions1 l bytes))) where
+    (read : ((length (key .h0) ≡ mostD) × (take (l .d) (key .h0) ≡ positions0 l bytes)) × ((length (key .h1) ≡ mostD) × (take (l .d) (key .h1) ≡ positions1 l bytes))) where
   pub read-secret : keyOf l key ≡ secret l bytes
   unfolding secret
   read-secret = pair-path (ap support (read .0 .1)) (ap support (read .1 .1))
 
-  module _ {t : Bool} (test : t ≡ risingFrom (l .r) 0 (take (l .d) (key .h0)) && risingFrom (l .r) 0 (take (l .d) (key .h1))) where
-    pub read-good : t ≡ goodKey l bytes
-    unfolding goodKey
-    read-good = test ∙ ap₂ (λ (a b : List ℕ). risingFrom (l .r) 0 a && risingFrom (l .r) 0 b) (read .0 .1) (read .1 .1)
+  pub read-good : {t : Bool} → t ≡ risingFrom (l .r) 0 (take (l .d) (key .h0)) && risingFrom (l .r) 0 (take (l .d) (key .h1)) → t ≡ goodKey l bytes
+  unfolding goodKey
+  read-good test = test ∙ ap₂ (λ (a b : List ℕ). risingFrom (l .r) 0 a && risingFrom (l .r) 0 b) (read .0 .1) (read .1 .1)
 
-    pub good-read : t ≡ true → Good l key
-    good-read good = let rise = both-true _ _ (sym test ∙ good) in ((read .0 .0, rise .0), (read .1 .0, rise .1))
+  pub good-read : goodKey l bytes ≡ true → Good l key
+  unfolding goodKey
+  good-read good =
+      let rise = both-true _ _ (rw (← read .0 .1, ← read .1 .1) at good) in ((read .0 .0, rise .0), (read .1 .0, rise .1))

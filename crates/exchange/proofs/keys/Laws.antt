@@ -7,19 +7,16 @@ use native.Mathlib.Nat.{zero-add}
 use native.Mathlib.Numerals.{add-one}
 use native.Mathlib.Omega.{arith}
 use lib.Dec.{ltb}
-use lib.ListN.{length, getD, set, drop, take, length-append, replicate}
+use lib.ListN.{length, getD, set, drop, take, length-append}
 use lib.Seq.{length-take-le, take-suc, drop-cons, set-at}
-use borrow.Author.Tests.{le-ltb, eq-eqb}
-use Rattle.hashing.specs.Answers.{firstOf, content, settle}
-use Rattle.hashing.specs.Answers.Outcome.{gives}
+use borrow.Author.Tests.{le-ltb}
 use Rattle.hashing.specs.Lists.{bits}
 use Rattle.ring.specs.Bytes.{bytesOf, numbers}
-use Rattle.ring.specs.Levels.{known, levelOf, messageBytes, polyBytes, privateBytes}
-use Rattle.ring.specs.Polynomials.{Poly, InRing, weight, hasInverse, listed, support}
+use Rattle.ring.specs.Levels.{levelOf, messageBytes}
+use Rattle.ring.specs.Polynomials.{Poly, InRing, weight, listed, support}
 use Rattle.ring.proofs.Layouts.{Below, bits-bytesOf}
-use Rattle.exchange.specs.Promises.{seedBytes, differs, make-key-says}
 use Rattle.exchange.specs.Sampler.{sample, sampleKey}
-use Rattle.exchange.specs.Scheme.{keyStream, h0Of, h1Of, sigmaOf, publicOf, twoBytes, privateKey}
+use Rattle.exchange.specs.Scheme.{keyStream, h0Of, h1Of, twoBytes}
 use Rattle.ring.proofs.Levels.{sizes}
 use Rattle.exchange.proofs.Making.{length-twoBytes, bounded}
 use Rattle.exchange.proofs.Streams.{below-drop, shake256-below, words-below}
@@ -117,21 +114,3 @@ two-more i list out more long =
 
     next : 2 * suc i ≡ suc (suc (2 * i))
     next = omega arith
-
--- what is to be given where the level is known and the lengths are its lengths
-module _ (level : ℕ) (seed : List ℕ) (roomPublic roomPrivate : ℕ) (level-known : known level ≡ true)
-    (seed-long : length seed ≡ seedBytes) (public-long : roomPublic ≡ polyBytes (levelOf level))
-    (private-long : roomPrivate ≡ privateBytes (levelOf level)) where
-  pub no-keys : hasInverse (levelOf level .r) (h0Of (levelOf level) seed) ≡ false
-      → make-key-says level seed roomPublic roomPrivate ≡ gives 5 (replicate roomPublic 0 ∷ replicate roomPrivate 0 ∷ [])
-  unfolding make-key-says settle firstOf content differs
-  no-keys none = rw (level-known, eq-eqb _ _ seed-long, eq-eqb _ _ public-long, eq-eqb _ _ private-long, none)
-
-  pub both-keys : hasInverse (levelOf level .r) (h0Of (levelOf level) seed) ≡ true
-      → make-key-says level seed roomPublic roomPrivate
-      ≡ gives 0
-      (bytesOf (levelOf level .r) (publicOf (levelOf level) seed)
-      ∷ privateKey (levelOf level .r) (h0Of (levelOf level) seed) (h1Of (levelOf level) seed) (sigmaOf seed)
-      ∷ [])
-  unfolding make-key-says settle firstOf content differs
-  both-keys there = rw (level-known, eq-eqb _ _ seed-long, eq-eqb _ _ public-long, eq-eqb _ _ private-long, there)

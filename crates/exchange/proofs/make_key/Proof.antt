@@ -1,63 +1,45 @@
--- `make_key` refuses an unknown level, then a wrong length; else it makes the keys, or refuses with 5.
-use mathlib.Core.Path.{sym, _∙_}
-use mathlib.Core.Bool.{_||_}
-use lib.ListN.{length}
+-- `make_key` makes the keys where its judge finds nothing, and refuses with 5 where h0 has no inverse.
+use mathlib.Core.Path.{_≡_, sym, ap, _∙_}
+use mathlib.Core.Bool.{not}
+use native.Mathlib.Omega.{arith}
 use borrow.Author.Needs.{needs}
 use borrow.Author.Tests.{not-false}
-use Rattle.hashing.specs.Answers.{firstOf, content, settle}
-use Rattle.exchange.specs.Promises.{differs, make-key-says}
-use Rattle.ring.proofs.Bools.{both-false}
-use Rattle.exchange.proofs.Lengths.{agree}
+use Rattle.hashing.proofs.Answers.{done, refused, first-stays, last-applies, last-clear}
+use Rattle.exchange.specs.Promises.{make-key-says}
+use Rattle.exchange.proofs.Judged.{making-numbered}
 use Rattle.exchange.proofs.make_key.Statement.{statement}
 use Rattle.exchange.proofs.make_key.Tie as tie
 
 returns : tie.Need-returns
-unfolding make-key-says settle firstOf content
+unfolding make-key-says
 returns c =
-    let refused = c .before .before .before .before in
-    let tested = refused .before .before .before in
-    rw (
-      ← tested .before .known .ensures,
-      tested .if1 .taken,
-      refused .refuse .ensures .0,
-      refused .refuse .ensures .1,
-      refused .refuse .ensures .2,
-    )
+    let refusal = c .before .before .before .before in
+    let judged = refusal .before .before .before in
+    let first = judged .before .making .ensures in
+    rw (refusal .two .ensures .0, refusal .two .ensures .1, refusal .two .ensures .2)
+    (sym (refused _ _ (first ∙ sym (first-stays _ _ (λ none. judged .if1 .taken (first ∙ none)))) (judged .if1 .taken)))
 
 returns-2 : tie.Need-returns-2
-unfolding make-key-says settle firstOf content differs
+unfolding make-key-says
 returns-2 c =
-    let refused = c .before .before .before .before in
-    let tested = refused .before .before .before in
-    let level = tested .before .before .before in
-    rw (
-      ← level .before .known .ensures,
-      level .if1 .left,
-      ← tested .before .before .polynomial .ensures,
-      ← tested .before .private-key2 .ensures,
-      tested .if2 .taken,
-      refused .refuse2 .ensures .0,
-      refused .refuse2 .ensures .1,
-      refused .refuse2 .ensures .2,
-    )
+    let refusal = c .before .before .before .before in
+    let tested = refusal .before .before .before in
+    let wrote = tested .before .before .before .before .before in
+    let judged = wrote .before .before .before in
+    let none = sym (judged .before .making .ensures) ∙ judged .if1 .left in
+    let five = last-applies _ _ (making-numbered _ _ _ _) none (ap not (sym (wrote .write .ensures .0)) ∙ tested .if2 .taken) in
+    rw (refusal .two2 .ensures .0, refusal .two2 .ensures .1, refusal .two2 .ensures .2, wrote .write .kept .1 .1 .0, wrote .write .kept .1 .1 .1 .0)
+    (sym (refused _ _ (sym five) (λ e. omega arith)))
 
-make-requires : tie.Need-make-requires
-unfolding differs
-make-requires c κs =
-    let tested = c .before .before in
-    let level = tested .before .before .before in
-    let given = level .before .before .before .before .before .args in
-    let public = length (given .public-key .now) in
-    let private = length (given .private-key .now) in
-    let n = tested .before .before .polynomial in
-    let m = tested .before .private-key2 in
-    let same1 = both-false (differs (length (given .seed .now)) 64 || differs public (n .result)) (differs private (m .result)) (tested .if2 .left) in
-    let same0 = both-false (differs (length (given .seed .now)) 64) (differs public (n .result)) (same1 .0) in (
-      sym (level .before .known .ensures) ∙ not-false _ (level .if1 .left),
-      agree (length (given .seed .now)) 64 (same0 .0),
-      agree public (n .result) (same0 .1) ∙ n .ensures,
-      agree private (m .result) (same1 .1) ∙ m .ensures,
-    )
+returns-3 : tie.Need-returns-3
+unfolding make-key-says
+returns-3 c =
+    let wrote = c .before .before .before .before .before in
+    let judged = wrote .before .before .before in
+    let none = sym (judged .before .making .ensures) ∙ judged .if1 .left in
+    let clear = last-clear _ (record { applies = _; number = 5 }) (making-numbered _ _ _ _) none (ap not (sym (wrote .write .ensures .0)) ∙ c .if2 .left) in
+    let keys = wrote .write .ensures .1 (not-false _ (c .if2 .left)) in
+    rw (done _ _ clear, keys .0, keys .1)
 
 pub make-key-spec : {M : Type 1} → statement M
 make-key-spec =
@@ -70,11 +52,9 @@ make-key-spec =
     returns
     (λ c κs. search needs)
     (λ c κs. search needs)
-    (λ c κs. search needs)
     (λ c. search needs)
     (λ c. search needs)
     returns-2
-    make-requires
     (λ c. search needs)
     (λ c. search needs)
-    (λ c. search needs))
+    returns-3)

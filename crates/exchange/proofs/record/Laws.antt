@@ -5,18 +5,19 @@ use mathlib.Core.List.{List, [], _∷_}
 use Prim.Native.Nat.{ℕ, _+_, _-_, _/_, _%_, _≤_, _<_}
 use native.Mathlib.Nat.{le-refl}
 use native.Mathlib.Omega.{arith}
-use lib.Dec.{leb, ltb, eqb}
+use lib.Dec.{leb, ltb, eqb, lit<}
 use lib.ListN.{length, getD, drop}
 use borrow.Author.Tests.{leb-true, ltb-false}
-use Rattle.hashing.specs.Answers.{Outcome, firstOf, content, settle}
+use Rattle.hashing.specs.Answers.{Outcome}
 use Rattle.hashing.specs.Answers.Outcome.{gives}
+use Rattle.hashing.proofs.Answers.{clear, settled}
 use Rattle.ring.specs.Levels.{known}
 use Rattle.exchange.specs.declared.record.Reading.{Reading}
 use Rattle.exchange.specs.declared.record.Reading.the-variants.{Good, Short, UnknownKind, WrongLength}
 use Rattle.exchange.specs.declared.record.Record.{Record}
 use Rattle.exchange.specs.declared.record.Thing.{Thing}
 use Rattle.exchange.specs.declared.record.Thing.the-variants.{Seed, PublicKey, PrivateKey, Ciphertext, Message, SessionKey}
-use Rattle.exchange.specs.Records.{Lists, thingNumber, bodyOf, knownKind, outcomeOf, read-record-says}
+use Rattle.exchange.specs.Records.{Lists, RecordPromise, thingNumber, bodyOf, knownKind, outcomeOf, record-reasons, read-record-says}
 use Rattle.ring.proofs.Bools.{both-true, both-false}
 
 -- a known kind names one of the six things
@@ -26,24 +27,12 @@ known-thing kind e =
     let thing = both-true (leb 1 (kind % 256)) (leb (kind % 256) 6) (both-true (known (kind / 256)) _ e .1) in
     (leb-true 1 (kind % 256) (thing .0), leb-true (kind % 256) 6 (thing .1))
 
--- the answer 0 says that no reason applied, and that the values are those asked for
-done : (short unknown wrong : Bool) (values value : List ℕ)
-    → gives 0 (values ∷ []) ≡ settle
-    (record { applies = short; number = 7 } ∷ record { applies = unknown; number = 8 } ∷ record { applies = wrong; number = 9 } ∷ [])
-    (record { room = 3; value = value } ∷ [])
-    → (short ≡ false) × (values ≡ value)
-unfolding settle firstOf content
-done true unknown wrong values value e = let no : _≡_ {A = ℕ} 0 7 = cc in absurd (omega arith)
-done false true wrong values value e = let no : _≡_ {A = ℕ} 0 8 = cc in absurd (omega arith)
-done false false true values value e = let no : _≡_ {A = ℕ} 0 9 = cc in absurd (omega arith)
-done false false false values value e = (refl, cc)
-
 -- a good record lies within its bytes
-pub good-within : (bytes : List ℕ) (x : Record) → outcomeOf (Good x) ≡ read-record-says bytes → 6 + x .body ≤ length bytes
-unfolding outcomeOf read-record-says
+pub good-within : (bytes : List ℕ) (x : Record) → RecordPromise bytes (Good x) → 6 + x .body ≤ length bytes
+unfolding outcomeOf read-record-says record-reasons
 good-within bytes x e =
-    let all = done (ltb (length bytes) 6 || ltb (length bytes - 6) (bodyOf bytes)) _ _ _ _ e in
-    let whole = both-false (ltb (length bytes) 6) (ltb (length bytes - 6) (bodyOf bytes)) (all .0) in
+    let all = settled (record-reasons bytes) _ (sym e) in
+    let whole = both-false (ltb (length bytes) 6) (ltb (length bytes - 6) (bodyOf bytes)) (clear _ _ (lit< tt) (all .0) .0) in
     let body : x .body ≡ bodyOf bytes = cc (all .1) in
     omega (arith, ltb-false (length bytes) 6 (whole .0), ltb-false (length bytes - 6) (bodyOf bytes) (whole .1))
 

@@ -18,9 +18,9 @@ counter r h residual j = weight r (λ p. both (h p) (residual ((j + p) % r)))
 unfoldable pub residual : ℕ → Pair → Poly → Pair → Poly
 residual r h s e = add s (add (mul r (e .half0) (h .half0)) (mul r (e .half1) (h .half1)))
 
--- "T the threshold: max(floor((slope·S + offset) / divisor), floor)"
+-- "T the threshold: max(floor((slope·S + offset) / divisor), least)"
 unfoldable pub threshold : Level → ℕ → ℕ
-threshold l S = max ((l .slope * S + l .offset) / l .divisor) (l .floor)
+threshold l S = max ((l .slope * S + l .offset) / l .divisor) (l .least)
 
 -- e = 0
 unfoldable pub nothing : Pair

@@ -3,9 +3,9 @@ use mathlib.Core.Bool.{Bool, true, _&&_}
 use mathlib.Core.List.{List, [], _∷_}
 use Prim.Native.Nat.{ℕ, suc, _+_, _*_}
 use lib.Dec.{leb, ltb}
-use lib.ListN.{drop}
+use lib.ListN.{take, drop}
 use Rattle.ring.specs.Bytes.{numbers}
-use Rattle.ring.specs.Levels.{Level}
+use Rattle.ring.specs.Levels.{Level, messageBytes}
 use Rattle.ring.specs.Polynomials.{support}
 use Rattle.exchange.specs.decoder.Decoder.{Pair}
 
@@ -19,8 +19,12 @@ positions1 l key = numbers 2 (l .d) (drop (2 * l .d) key)
 unfoldable pub secret : Level → List ℕ → Pair
 secret l key = record { half0 = support (positions0 l key); half1 = support (positions1 l key) }
 
+-- what follows the positions, and sigma, its first 32 bytes
+unfoldable pub tail : Level → List ℕ → List ℕ
+tail l key = drop (2 * (l .d + l .d)) key
+
 unfoldable pub sigma : Level → List ℕ → List ℕ
-sigma l key = drop (2 * (l .d + l .d)) key
+sigma l key = take messageBytes (tail l key)
 
 -- "strictly rising inside each half, below r": none below `least`, and each above the one before it
 unfoldable pub risingFrom : ℕ → ℕ → List ℕ → Bool

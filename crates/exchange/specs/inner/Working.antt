@@ -5,6 +5,7 @@ use mathlib.Core.List.{List}
 use Prim.Native.Nat.{ℕ, _<_}
 use lib.ListN.{length, getD, take}
 use Rattle.hashing.specs.Lists.{bits}
+use Rattle.ring.specs.inner.Sizes.{mostD, wordBits}
 use Rattle.ring.specs.Levels.{Level}
 use Rattle.ring.specs.Polynomials.{Poly, InRing, support}
 use Rattle.exchange.specs.declared.decoder.halves
@@ -18,21 +19,21 @@ keyOf l key = record { half0 = support (take (l .d) (key .h0)); half1 = support 
 
 -- room for the largest level, and the level's positions rise below r
 abbrev pub Rising : Level → List ℕ → Type 0
-Rising l h = (length h ≡ 103) × (risingFrom (l .r) 0 (take (l .d) h) ≡ true)
+Rising l h = (length h ≡ mostD) × (risingFrom (l .r) 0 (take (l .d) h) ≡ true)
 
 abbrev pub Good : Level → private_key.Key.Key → Type 0
 Good l key = Rising l (key .h0) × Rising l (key .h1)
 
 -- bit j of a half is coefficient j
-abbrev pub pairOf : halves.Halves.Halves → Pair
+abbrev pub pairOf : halves.WordPair.WordPair → Pair
 pairOf e = record { half0 = bits 64 (e .e0); half1 = bits 64 (e .e1) }
 
-abbrev pub Inside : Level → halves.Halves.Halves → Type 0
+abbrev pub Inside : Level → halves.WordPair.WordPair → Type 0
 Inside l e = InRing (l .r) (bits 64 (e .e0)) × InRing (l .r) (bits 64 (e .e1))
 
 -- byte j is the counter of bit j
 abbrev pub Counted : ℕ → Poly → Poly → List ℕ → Type 0
-Counted r h res count = (length count ≡ 24704) × ((j : ℕ) → j < r → getD count j 0 ≡ counter r h res j)
+Counted r h res count = (length count ≡ wordBits) × ((j : ℕ) → j < r → getD count j 0 ≡ counter r h res j)
 
 -- what is kept of an error: nothing after a failure
 abbrev pub kept : Bool → Pair → Pair

@@ -10,24 +10,25 @@ ghost use Prim.Native.Nat.{ℕ, _+_, _*_, _/_, _%_, _^_, _≤_, _<_};
 ghost use lib.Dec.{ltb, leb, eqb};
 ghost use lib.ListN.{length, getD, replicate};
 ghost use Rattle.hashing.specs.Lists.{tab, bitAt, bits};
+ghost use Rattle.ring.specs.inner.Sizes.{rowsBits, wordBits, words};
 ghost use Rattle.exchange.specs.inner.Counting.{total, rowOf};
 ghost use Rattle.ring.specs.Bytes.{number};
 ghost use Rattle.ring.specs.Polynomials.{bit};
 
 // Bits of the largest polynomial, and three times as many.
-const BITS: usize = 24704;
+const BITS: usize = 64 * WORDS;
 
-const ROWS: usize = 74112;
+const ROWS: usize = 3 * BITS;
 
 pub fn blank_rows() -> [u8; ROWS]
-    ensures { λ s. ⌜ s ≡ replicate 74112 0 ⌝ }
+    ensures { λ s. ⌜ s ≡ replicate rowsBits 0 ⌝ }
 {
     [0u8; ROWS]
 }
 
 // The residual twice in a row, before zeros.
 pub fn rows(r: usize, x: [u64; WORDS], s: &mut [u8])
-    requires { ⌜ (64 ≤ r) × (r < 24704) ⌝ ∗ ⌜ now s ≡ replicate 74112 0 ⌝ }
+    requires { ⌜ (64 ≤ r) × (r < wordBits) ⌝ ∗ ⌜ now s ≡ replicate rowsBits 0 ⌝ }
     ensures { λ _. ⌜ ((k : ℕ) → k < 2 * r → getD (now (s .exit)) k 0 ≡ bit (bits 64 x (k % r))) × ((k : ℕ) → 2 * r ≤ k → getD (now (s .exit)) k 0 ≡ 0) ⌝ }
 {
     lay(&x, (r + 7) / 8, s);
@@ -92,16 +93,16 @@ fn add_rows(count: &mut [u8], s: &[u8], p: [usize; 8], r: usize)
 }
 
 pub fn blank_counts() -> [u8; BITS]
-    ensures { λ s. ⌜ s ≡ replicate 24704 0 ⌝ }
+    ensures { λ s. ⌜ s ≡ replicate wordBits 0 ⌝ }
 {
     [0u8; BITS]
 }
 
 // For each bit below r, how many of the d positions have it set in the rows, added to counters that are 0.
 pub fn counters(r: usize, positions: &[u16], d: usize, s: &[u8], count: &mut [u8])
-    requires { ⌜ (r < 24704) × (d ≤ length (now positions)) × (d ≤ 200) ⌝ ∗ ⌜ ((i : ℕ) → i < d → getD (now positions) i 0 < r) ⌝
-        ∗ ⌜ (length (now s) ≡ 74112) × ((k : ℕ) → getD (now s) k 0 ≤ 1) × ((k : ℕ) → 2 * r ≤ k → getD (now s) k 0 ≡ 0) ⌝
-        ∗ ⌜ now count ≡ replicate 24704 0 ⌝ }
+    requires { ⌜ (r < wordBits) × (d ≤ length (now positions)) × (d ≤ 200) ⌝ ∗ ⌜ ((i : ℕ) → i < d → getD (now positions) i 0 < r) ⌝
+        ∗ ⌜ (length (now s) ≡ rowsBits) × ((k : ℕ) → getD (now s) k 0 ≤ 1) × ((k : ℕ) → 2 * r ≤ k → getD (now s) k 0 ≡ 0) ⌝
+        ∗ ⌜ now count ≡ replicate wordBits 0 ⌝ }
     ensures { λ _. ⌜ ((j : ℕ) → j < r → getD (now (count .exit)) j 0 ≡ total d (λ i. getD (now (s .entry)) (getD (now (positions .entry)) i 0 + j) 0)) ⌝ }
 {
     let mut i = 0;
@@ -166,7 +167,7 @@ fn word_of(m: &[u8], at: usize) -> u64
 
 // The bits of n words, which lie one to a byte.
 fn packed(m: &[u8], n: usize) -> [u64; WORDS]
-    requires { ⌜ (n ≤ 386) × (64 * n ≤ length (now m)) × ((k : ℕ) → getD (now m) k 0 ≤ 1) × ((k : ℕ) → 64 * n ≤ k → getD (now m) k 0 ≡ 0) ⌝ }
+    requires { ⌜ (n ≤ words) × (64 * n ≤ length (now m)) × ((k : ℕ) → getD (now m) k 0 ≤ 1) × ((k : ℕ) → 64 * n ≤ k → getD (now m) k 0 ≡ 0) ⌝ }
     ensures { λ x. ⌜ bits 64 x ≡ (λ k. eqb (getD (now (m .entry)) k 0) 1) ⌝ }
 {
     let mut x = zeros();
@@ -180,7 +181,7 @@ fn packed(m: &[u8], n: usize) -> [u64; WORDS]
 
 // The bits below r whose counter reaches the bound.
 pub fn reaching(r: usize, count: &[u8], bound: u8) -> [u64; WORDS]
-    requires { ⌜ (r < 24704) × (length (now count) ≡ 24704) ⌝ }
+    requires { ⌜ (r < wordBits) × (length (now count) ≡ wordBits) ⌝ }
     ensures { λ x. ⌜ bits 64 x ≡ (λ j. ltb j r && leb bound (getD (now (count .entry)) j 0)) ⌝ }
 {
     let mut m = blank_counts();

@@ -7,19 +7,20 @@ ghost use mathlib.Core.Path.{_≡_};
 ghost use mathlib.Core.Bool.{_&&_};
 ghost use Prim.Native.Nat.{_*_, _≤_};
 ghost use Rattle.hashing.specs.Lists.{bits};
+ghost use Rattle.ring.specs.inner.Sizes.{words};
 ghost use Rattle.ring.specs.Levels.{levelOf};
 ghost use Rattle.ring.specs.Polynomials.{InRing};
 ghost use Rattle.exchange.specs.decoder.Decoder;
 ghost use Rattle.exchange.specs.inner.Working.{pairOf, Inside};
 
-pub struct Halves {
+pub struct WordPair {
     pub e0: [u64; WORDS],
     pub e1: [u64; WORDS],
 }
 
 // The bits that two polynomials of n words have both.
 fn common(a: [u64; WORDS], b: [u64; WORDS], n: usize) -> [u64; WORDS]
-    requires { ⌜ (n ≤ 386) × InRing (64 * n) (bits 64 b) ⌝ }
+    requires { ⌜ (n ≤ words) × InRing (64 * n) (bits 64 b) ⌝ }
     ensures { λ c. ⌜ bits 64 c ≡ (λ j. bits 64 a j && bits 64 b j) ⌝ }
 {
     let mut c = zeros();
@@ -31,7 +32,7 @@ fn common(a: [u64; WORDS], b: [u64; WORDS], n: usize) -> [u64; WORDS]
     c
 }
 
-pub fn flipped(level: u32, e: Halves, m: Halves) -> Halves
+pub fn flipped(level: u32, e: WordPair, m: WordPair) -> WordPair
     requires { ⌜ Inside (levelOf level) e × Inside (levelOf level) m ⌝ }
     ensures { λ f. ⌜ pairOf f ≡ Decoder.flipped (pairOf e) (pairOf m) ⌝ }
 {
@@ -42,10 +43,10 @@ pub fn flipped(level: u32, e: Halves, m: Halves) -> Halves
     let m1 = m.e1;
     let f0 = words::sum(e0, m0, n);
     let f1 = words::sum(e1, m1, n);
-    Halves { e0: f0, e1: f1 }
+    WordPair { e0: f0, e1: f1 }
 }
 
-pub fn among(level: u32, a: Halves, b: Halves) -> Halves
+pub fn among(level: u32, a: WordPair, b: WordPair) -> WordPair
     requires { ⌜ Inside (levelOf level) b ⌝ }
     ensures { λ f. ⌜ pairOf f ≡ Decoder.among (pairOf a) (pairOf b) ⌝ }
 {
@@ -56,11 +57,11 @@ pub fn among(level: u32, a: Halves, b: Halves) -> Halves
     let b1 = b.e1;
     let f0 = common(a0, b0, n);
     let f1 = common(a1, b1, n);
-    Halves { e0: f0, e1: f1 }
+    WordPair { e0: f0, e1: f1 }
 }
 
 // Those of a that b has not: a, flipped where b has them too.
-pub fn without(level: u32, a: Halves, b: Halves) -> Halves
+pub fn without(level: u32, a: WordPair, b: WordPair) -> WordPair
     requires { ⌜ Inside (levelOf level) a ⌝ }
     ensures { λ f. ⌜ pairOf f ≡ Decoder.without (pairOf a) (pairOf b) ⌝ }
 {
@@ -68,9 +69,9 @@ pub fn without(level: u32, a: Halves, b: Halves) -> Halves
 }
 
 // No error.
-pub fn nothing() -> Halves
+pub fn nothing() -> WordPair
     ensures { λ e. ⌜ pairOf e ≡ Decoder.nothing ⌝ }
 {
     let none = zeros();
-    Halves { e0: none, e1: none }
+    WordPair { e0: none, e1: none }
 }

@@ -1,32 +1,31 @@
 // The positions of a private key.
 use ring::little_endian::two;
 use ring::size;
+use ring::size::MOST_D;
 ghost use mathlib.Core.Path.{_≡_};
 ghost use mathlib.Core.Bool.{_&&_};
 ghost use Prim.Native.Nat.{_*_, _≤_};
 ghost use lib.ListN.{length, take};
+ghost use Rattle.ring.specs.inner.Sizes.{mostD};
 ghost use Rattle.ring.specs.Bytes.{numbers};
 ghost use Rattle.ring.specs.Levels.{levelOf, privateBytes};
 ghost use Rattle.exchange.specs.decoder.PrivateKey.{positions0, positions1, risingFrom};
 
-// Positions of the largest level.
-pub const MOST: usize = 103;
-
 pub struct Key {
-    pub h0: [u16; MOST],
-    pub h1: [u16; MOST],
+    pub h0: [u16; MOST_D],
+    pub h1: [u16; MOST_D],
 }
 
-fn no_positions() -> [u16; MOST]
-    ensures { λ h. ⌜ 103 ≡ length h ⌝ }
+fn no_positions() -> [u16; MOST_D]
+    ensures { λ h. ⌜ mostD ≡ length h ⌝ }
 {
-    [0; MOST]
+    [0; MOST_D]
 }
 
 // The d positions at the front of the bytes.
-fn half(bytes: &[u8], d: usize) -> [u16; MOST]
-    requires { ⌜ (d ≤ 103) × (2 * d ≤ length (now bytes)) ⌝ }
-    ensures { λ h. ⌜ (length h ≡ 103) × (take d h ≡ numbers 2 d (now (bytes .entry))) ⌝ }
+fn half(bytes: &[u8], d: usize) -> [u16; MOST_D]
+    requires { ⌜ (d ≤ mostD) × (2 * d ≤ length (now bytes)) ⌝ }
+    ensures { λ h. ⌜ (length h ≡ mostD) × (take d h ≡ numbers 2 d (now (bytes .entry))) ⌝ }
 {
     let mut h = no_positions();
     let mut i = 0;
@@ -40,8 +39,8 @@ fn half(bytes: &[u8], d: usize) -> [u16; MOST]
 // The positions of a private key.
 pub fn read_key(level: u32, bytes: &[u8]) -> Key
     requires { ⌜ length (now bytes) ≡ privateBytes (levelOf level) ⌝ }
-    ensures { λ key. ⌜ (length (key .h0) ≡ 103) × (take (levelOf level .d) (key .h0) ≡ positions0 (levelOf level) (now (bytes .entry))) ⌝
-        ∗ ⌜ (length (key .h1) ≡ 103) × (take (levelOf level .d) (key .h1) ≡ positions1 (levelOf level) (now (bytes .entry))) ⌝ }
+    ensures { λ key. ⌜ (length (key .h0) ≡ mostD) × (take (levelOf level .d) (key .h0) ≡ positions0 (levelOf level) (now (bytes .entry))) ⌝
+        ∗ ⌜ (length (key .h1) ≡ mostD) × (take (levelOf level .d) (key .h1) ≡ positions1 (levelOf level) (now (bytes .entry))) ⌝ }
 {
     let d = size::key_weight(level);
     let at = 2 * d;
@@ -67,7 +66,7 @@ fn rises(r: usize, h: &[u16]) -> bool
 }
 
 pub fn is_good(level: u32, key: Key) -> bool
-    requires { ⌜ (length (key .h0) ≡ 103) × (length (key .h1) ≡ 103) ⌝ }
+    requires { ⌜ (length (key .h0) ≡ mostD) × (length (key .h1) ≡ mostD) ⌝ }
     ensures { λ t. ⌜ t ≡ risingFrom (levelOf level .r) 0 (take (levelOf level .d) (key .h0)) && risingFrom (levelOf level .r) 0 (take (levelOf level .d) (key .h1)) ⌝ }
 {
     let r = size::block(level);

@@ -1,7 +1,7 @@
 // Black-Gray-Flip: from a syndrome and a private key the error, in five rounds that always run.
 use crate::decoder::counters;
 use crate::decoder::counters::blank_counts;
-use crate::decoder::halves::Halves;
+use crate::decoder::halves::WordPair;
 use crate::decoder::halves::among;
 use crate::decoder::halves::flipped;
 use crate::decoder::halves::nothing;
@@ -18,6 +18,7 @@ ghost use Prim.Native.Nat.{_≤_};
 ghost use lib.Dec.{ltb, leb};
 ghost use lib.ListN.{length, getD, replicate};
 ghost use Rattle.hashing.specs.Lists.{bits};
+ghost use Rattle.ring.specs.inner.Sizes.{wordBits};
 ghost use Rattle.ring.specs.Levels.{levelOf};
 ghost use Rattle.ring.specs.Polynomials.{InRing};
 ghost use Rattle.ring.specs.Polynomials;
@@ -28,7 +29,7 @@ ghost use Rattle.exchange.specs.inner.Working.{keyOf, Good, pairOf, Insi
 const ROUNDS: usize = 5;
 
 // The residual of an error, anew from the syndrome.
-fn residual(level: u32, key: Key, s: [u64; WORDS], e: Halves) -> [u64; WORDS]
+fn residual(level: u32, key: Key, s: [u64; WORDS], e: WordPair) -> [u64; WORDS]
     requires { ⌜ Good (levelOf level) key ⌝ ∗ ⌜ InRing (levelOf level .r) (bits 64 s) × Inside (levelOf level) e ⌝ }
     ensures { λ x. ⌜ bits 64 x ≡ Decoder.residual (levelOf level .r) (keyOf (levelOf level) key) (bits 64 s) (pairOf e) ⌝ }
 {
@@ -46,7 +47,7 @@ fn residual(level: u32, key: Key, s: [u64; WORDS], e: Halves) -> [u64; WORDS]
 
 // The counters of both halves, from the same rows, added to counters that are 0.
 fn count(level: u32, key: Key, x: [u64; WORDS], c0: &mut [u8], c1: &mut [u8])
-    requires { ⌜ Good (levelOf level) key ⌝ ∗ ⌜ (now c0 ≡ replicate 24704 0) × (now c1 ≡ replicate 24704 0) ⌝ }
+    requires { ⌜ Good (levelOf level) key ⌝ ∗ ⌜ (now c0 ≡ replicate wordBits 0) × (now c1 ≡ replicate wordBits 0) ⌝ }
     ensures { λ _.
         ⌜ Counted (levelOf level .r) (keyOf (levelOf level) key .half0) (bits 64 x) (now (c0 .exit))
         × Counted (levelOf level .r) (keyOf (levelOf level) key .half1) (bits 64 x) (now (c1 .exit)) ⌝ }
@@ -62,19 +63,19 @@ fn count(level: u32, key: Key, x: [u64; WORDS], c0: &mut [u8], c1: &mut [u8])
 }
 
 // The bits of both halves whose counter reaches a bound.
-fn marks(level: u32, c0: &[u8], c1: &[u8], bound: u8) -> Halves
-    requires { ⌜ (length (now c0) ≡ 24704) × (length (now c1) ≡ 24704) ⌝ }
+fn marks(level: u32, c0: &[u8], c1: &[u8], bound: u8) -> WordPair
+    requires { ⌜ (length (now c0) ≡ wordBits) × (length (now c1) ≡ wordBits) ⌝ }
     ensures { λ m. ⌜ (bits 64 (m .e0) ≡ (λ j. ltb j (levelOf level .r) && leb bound (getD (now (c0 .entry)) j 0)))
         × (bits 64 (m .e1) ≡ (λ j. ltb j (levelOf level .r) && leb bound (getD (now (c1 .entry)) j 0))) ⌝ }
 {
     let r = size::block(level);
     let e0 = counters::reaching(r, c0, bound);
     let e1 = counters::reaching(r, c1, bound);
-    Halves { e0: e0, e1: e1 }
+    WordPair { e0: e0, e1: e1 }
 }
 
 // The bits that reach a bound in a residual.
-fn reaching(level: u32, key: Key, x: [u64; WORDS], bound: u8) -> Halves
+fn reaching(level: u32, key: Key, x: [u64; WORDS], bound: u8) -> WordPair
     requires { ⌜ Good (levelOf level) key ⌝ }
     ensures { λ m. ⌜ pairOf m ≡ Decoder.reaching (levelOf level .r) (keyOf (levelOf level) key) (bits 64 x) bound ⌝ }
 {
@@ -91,8 +92,8 @@ fn threshold(level: u32, s: usize) -> u8
 {
     let l = level_of(level);
     let t = (l.slope * s + l.offset) / l.divisor;
-    if t < l.floor {
-        return l.floor as u8;
+    if t < l.least {
+        return l.least as u8;
     }
     t as u8
 }
@@ -114,7 +115,7 @@ fn bound_of(level: u32, x: [u64; WORDS]) -> u8
 }
 
 // Flips those of the marked bits that still reach the masked bound.
-fn masked_step(level: u32, key: Key, s: [u64; WORDS], marked: Halves, e: Halves) -> Halves
+fn masked_step(level: u32, key: Key, s: [u64; WORDS], marked: WordPair, e: WordPair) -> WordPair
     requires { ⌜ Good (levelOf level) key ⌝ ∗ ⌜ InRing (levelOf level .r) (bits 64 s) × Inside (levelOf level) e ⌝ }
     ensures { λ f. ⌜ pairOf f ≡ Decoder.maskedStep (levelOf level) (keyOf (levelOf level) key) (bits 64 s) (pairOf marked) (pairOf e) ⌝ }
 {
@@ -125,7 +126,7 @@ fn masked_step(level: u32, key: Key, s: [u64; WORDS], marked: Halves, e: Halves)
 }
 
 // Round i + 1: all counters are taken from the residual at its start, and mark the black bits and the gray ones.
-fn step(level: u32, key: Key, s: [u64; WORDS], e: Halves, i: usize) -> Halves
+fn step(level: u32, key: Key, s: [u64; WORDS], e: WordPair, i: usize) -> WordPair
     requires { ⌜ Good (levelOf level) key ⌝ ∗ ⌜ InRing (levelOf level .r) (bits 64 s) × Inside (levelOf level) e ⌝ }
     ensures { λ f. ⌜ pairOf f ≡ Decoder.step (levelOf level) (keyOf (levelOf level) key) (bits 64 s) i (pairOf e) ⌝ }
 {
@@ -145,7 +146,7 @@ fn step(level: u32, key: Key, s: [u64; WORDS], e: Halves, i: usize) -> Halves
 }
 
 // All five rounds run, whatever is left.
-fn rounds(level: u32, key: Key, s: [u64; WORDS]) -> Halves
+fn rounds(level: u32, key: Key, s: [u64; WORDS]) -> WordPair
     requires { ⌜ Good (levelOf level) key ⌝ ∗ ⌜ InRing (levelOf level .r) (bits 64 s) ⌝ }
     ensures { λ e. ⌜ pairOf e ≡ Decoder.bgf (levelOf level) (keyOf (levelOf level) key) (bits 64 s) ⌝ }
 {
@@ -160,7 +161,7 @@ fn rounds(level: u32, key: Key, s: [u64; WORDS]) -> Halves
 }
 
 // The error of a decoding that did not fail, and no error after one that did.
-fn kept(failed: bool, e: Halves) -> Halves
+fn kept(failed: bool, e: WordPair) -> WordPair
     ensures { λ k. ⌜ pairOf k ≡ Working.kept failed (pairOf e) ⌝ }
 {
     if failed {

@@ -3,19 +3,18 @@ use mathlib.Core.Path.{sym, _∙_}
 use Prim.Native.Nat.{_%_, _≤_}
 use borrow.Author.Needs.{needs}
 use borrow.Author.Tests.{lt-ltb, le-ltb, eq-eqb, ne-eqb, not-false}
-use Rattle.hashing.specs.Answers.{firstOf, content, settle}
-use Rattle.exchange.specs.Promises.{differs}
-use Rattle.exchange.specs.Records.{bodyOf, kindOf, outcomeOf, read-record-says}
+use Rattle.hashing.specs.Answers.{differs, firstOf, content, settle}
+use Rattle.exchange.specs.Records.{bodyOf, kindOf, outcomeOf, record-reasons, read-record-says}
 use Rattle.exchange.proofs.record.Laws.{known-thing}
 use Rattle.exchange.proofs.record.read_record.Statement.{statement}
 use Rattle.exchange.proofs.record.read_record.Tie as tie
 
 returns : tie.Need-returns
-unfolding outcomeOf read-record-says settle firstOf content
+unfolding outcomeOf read-record-says record-reasons settle firstOf content
 returns c = rw (lt-ltb _ _ (c .if1 .taken))
 
 returns-2 : tie.Need-returns-2
-unfolding outcomeOf read-record-says settle firstOf content bodyOf
+unfolding outcomeOf read-record-says record-reasons settle firstOf content bodyOf
 returns-2 c =
     rw (
       le-ltb _ _ (c .before .before .if1 .left),
@@ -24,7 +23,7 @@ returns-2 c =
     )
 
 returns-3 : tie.Need-returns-3
-unfolding outcomeOf read-record-says settle firstOf content bodyOf kindOf
+unfolding outcomeOf read-record-says record-reasons settle firstOf content bodyOf kindOf
 returns-3 c =
     let known = c .before in
     let there = known .before .before in
@@ -42,7 +41,7 @@ thing : (c : tie.Else3) → (1 ≤ c .before .before .two .result % 256) × (c .
 thing c = known-thing (c .before .before .two .result) (sym (c .before .known-kind .ensures) ∙ not-false _ (c .if3 .left))
 
 returns-4 : tie.Need-returns-4
-unfolding outcomeOf read-record-says settle firstOf content bodyOf kindOf differs
+unfolding outcomeOf read-record-says record-reasons settle firstOf content bodyOf kindOf differs
 returns-4 c =
     let known = c .before .before .before in
     let there = known .before .before in
@@ -58,7 +57,7 @@ returns-4 c =
     )
 
 returns-5 : tie.Need-returns-5
-unfolding outcomeOf read-record-says settle firstOf content bodyOf kindOf differs
+unfolding outcomeOf read-record-says record-reasons settle firstOf content bodyOf kindOf differs
 returns-5 c =
     let known = c .before .before .before .before in
     let there = known .before .before in

@@ -7,6 +7,7 @@ use lib.ListN.{length, take}
 use lib.Seq.{length-take-le}
 use borrow.Author.Needs.{needs}
 use Rattle.hashing.specs.Lists.{bits}
+use Rattle.ring.specs.inner.Sizes.{mostT}
 use Rattle.ring.specs.Bytes.{bytesOf}
 use Rattle.ring.specs.Levels.{levelOf}
 use Rattle.ring.specs.Polynomials.{weight}
@@ -77,7 +78,7 @@ cut : (c : tie.After-polynomial) →
 cut c = length-take-le _ _ (let long = c .before .before .before .before .pre .0 .2 in omega arith)
 
 -- "weight t"
-few : (level : ℕ) (m : List ℕ) → weight (levelOf level .r) (hashH (levelOf level) m .half1) ≤ 199
+few : (level : ℕ) (m : List ℕ) → weight (levelOf level .r) (hashH (levelOf level) m .half1) ≤ mostT
 few level m = omega (arith, error-weight level m, sizes level)
 
 write-c0-requires : tie.Need-write-c0-requires

@@ -5,6 +5,7 @@ use Prim.Native.Nat.{ℕ, _+_, _*_, _≤_, _<_, _-_}
 use native.Mathlib.Omega.{arith}
 use lib.ListN.{length, getD}
 use Rattle.hashing.proofs.Lists.{from-table}
+use Rattle.ring.specs.inner.Sizes.{wordBits}
 use Rattle.exchange.specs.inner.Counting.{total, rowOf}
 use Rattle.hashing.proofs.Words.{zero-at}
 use Rattle.exchange.proofs.decoder.counters.Laws.{total-ext, total-add, total-le, total-past, row-of, row-past, row-room, blank-length}
@@ -17,7 +18,7 @@ adds r positions d s j i = getD s (rowOf positions d (2 * r) i + j) 0
 
 abbrev Inv-loop : tie.InvT-loop
 Inv-loop r positions d s count₀ i₀ count i =
-    (i < d + 8) × (length count ≡ 24704) × ((j : ℕ) → j < r → getD count j 0 ≡ total i (adds r positions d s j))
+    (i < d + 8) × (length count ≡ wordBits) × ((j : ℕ) → j < r → getD count j 0 ≡ total i (adds r positions d s j))
 
 abbrev μ-loop : tie.MeasureT-loop
 μ-loop r positions d s count₀ i₀ count i = d - i
@@ -26,7 +27,7 @@ loop-holds : tie.Need-loop-holds Inv-loop μ-loop
 unfolding total
 loop-holds c =
     let blank = c .before .before .before .pre .1 .1 .1 in
-    (omega arith, blank-length 24704 blank, λ j h. ap (λ (l : List ℕ). getD l j 0) blank ∙ zero-at 24704 j)
+    (omega arith, blank-length wordBits blank, λ j h. ap (λ (l : List ℕ). getD l j 0) blank ∙ zero-at wordBits j)
 
 add-rows-requires : tie.Need-add-rows-requires Inv-loop μ-loop
 add-rows-requires c κs =
@@ -96,5 +97,5 @@ counters-spec =
     (λ c. omega arith)
     (λ c. omega arith)
     loop-again
-    (λ c. c .before .loop .inv .1 ∙ sym (blank-length 24704 (c .before .before .before .before .before .pre .1 .1 .1)))
+    (λ c. c .before .loop .inv .1 ∙ sym (blank-length wordBits (c .before .before .before .before .before .pre .1 .1 .1)))
     returns)

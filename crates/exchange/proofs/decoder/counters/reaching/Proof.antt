@@ -8,21 +8,22 @@ use borrow.Author.Tests.{le-ltb}
 use lib.Dec.{leb, ltb, eqb}
 use lib.ListN.{getD}
 use Rattle.hashing.proofs.Words.{zero-at}
+use Rattle.ring.specs.inner.Sizes.{wordBits}
 use Rattle.exchange.proofs.decoder.counters.Laws.{blank-length, test-bit, bit-le}
 use Rattle.exchange.proofs.decoder.counters.reaching.Statement.{statement}
 use Rattle.exchange.proofs.decoder.counters.reaching.Tie as tie
 
 tests-requires : tie.Need-tests-requires
 tests-requires c κs =
-    let size = blank-length 24704 (c .before .blank-counts .ensures) in
+    let size = blank-length wordBits (c .before .blank-counts .ensures) in
     let bound = c .before .before .before .pre in
-    (omega arith, omega arith, λ k. ap (λ (l : List ℕ). getD l k 0) (c .before .blank-counts .ensures) ∙ zero-at 24704 k)
+    (omega arith, omega arith, λ k. ap (λ (l : List ℕ). getD l k 0) (c .before .blank-counts .ensures) ∙ zero-at wordBits k)
 
 packed-requires : tie.Need-packed-requires
 packed-requires c κs =
     let tested = c .before .before in
     let start = tested .before .before .before .before in
-    let size = tested .tests .kept .1 .1 .1 .0 ∙ blank-length 24704 (tested .before .before .blank-counts .ensures) in (
+    let size = tested .tests .kept .1 .1 .1 .0 ∙ blank-length wordBits (tested .before .before .blank-counts .ensures) in (
       omega (arith, start .pre .0),
       omega (arith, size, start .pre .0),
       (λ k. rw (tested .tests .ensures k) (bit-le (ltb k (start .args .r) && leb (start .args .bound) (getD (start .args .count .now) k 0)))),
@@ -43,9 +44,9 @@ reaching-spec =
     tie.close
     (tie.spec
     (λ c κs. tt)
-    (λ c. sym (blank-length 24704 (c .before .blank-counts .ensures)))
+    (λ c. sym (blank-length wordBits (c .before .blank-counts .ensures)))
     tests-requires
-    (λ c. sym (c .before .before .tests .kept .1 .1 .1 .0 ∙ blank-length 24704 (c .before .before .before .before .blank-counts .ensures)))
+    (λ c. sym (c .before .before .tests .kept .1 .1 .1 .0 ∙ blank-length wordBits (c .before .before .before .before .blank-counts .ensures)))
     (λ c. omega arith)
     packed-requires
     returns)

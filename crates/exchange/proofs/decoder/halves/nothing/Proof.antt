@@ -6,6 +6,7 @@ use Prim.Native.Nat.{ℕ}
 use borrow.Author.Needs.{needs}
 use lib.ListN.{replicate}
 use Rattle.hashing.specs.Lists.{bits}
+use Rattle.ring.specs.inner.Sizes.{words}
 use Rattle.ring.specs.Polynomials.{Poly}
 use Rattle.ring.proofs.Packed.{bits-zeros}
 use Rattle.exchange.specs.decoder.Decoder.{nothing}
@@ -13,8 +14,8 @@ use Rattle.exchange.proofs.decoder.Laws.{pair-path}
 use Rattle.exchange.proofs.decoder.halves.nothing.Statement.{statement}
 use Rattle.exchange.proofs.decoder.halves.nothing.Tie as tie
 
-none : {x : List ℕ} → x ≡ replicate 386 0 → _≡_ {A = Poly} (bits 64 x) (λ k. false)
-none e = ap (bits 64) e ∙ bits-zeros 386
+none : {x : List ℕ} → x ≡ replicate words 0 → _≡_ {A = Poly} (bits 64 x) (λ k. false)
+none e = ap (bits 64) e ∙ bits-zeros words
 
 returns : tie.Need-returns
 unfolding nothing

@@ -7,13 +7,14 @@ use native.Mathlib.Omega.{arith}
 use lib.ListN.{length, take, drop, set, length-set}
 use lib.Seq.{take-suc-set}
 use Rattle.hashing.specs.Lists.{tab}
+use Rattle.ring.specs.inner.Sizes.{mostD}
 use Rattle.ring.specs.Bytes.{littleEndian, numbers}
 use Rattle.ring.proofs.little_endian.Laws.{bytes-below}
 use Rattle.exchange.proofs.decoder.private_key.half.Statement.{statement}
 use Rattle.exchange.proofs.decoder.private_key.half.Tie as tie
 
 abbrev Inv-loop : tie.InvT-loop
-Inv-loop bytes d h₀ i₀ h i = (i ≤ d) × (length h ≡ 103) × (take i h ≡ numbers 2 i bytes)
+Inv-loop bytes d h₀ i₀ h i = (i ≤ d) × (length h ≡ mostD) × (take i h ≡ numbers 2 i bytes)
 
 abbrev μ-loop : tie.MeasureT-loop
 μ-loop bytes d h₀ i₀ h i = d - i

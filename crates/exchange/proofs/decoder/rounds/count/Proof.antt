@@ -7,6 +7,7 @@ use native.Mathlib.Omega.{arith}
 use borrow.Author.Needs.{needs}
 use lib.ListN.{length, getD, take}
 use Rattle.hashing.specs.Lists.{bits}
+use Rattle.ring.specs.inner.Sizes.{rowsBits, wordBits}
 use Rattle.ring.specs.Levels.{levelOf}
 use Rattle.ring.specs.Polynomials.{Poly, bit, support}
 use Rattle.exchange.specs.inner.Counting.{total}
@@ -20,14 +21,14 @@ use Rattle.exchange.proofs.decoder.rounds.count.Tie as tie
 -- what `rows` promises of s
 abbrev Rows : ℕ → Poly → List ℕ → Type 0
 Rows r x s =
-    (length s ≡ 74112) × ((k : ℕ) → k < 2 * r → getD s k 0 ≡ bit (x (k % r))) × ((k : ℕ) → 2 * r ≤ k → getD s k 0 ≡ 0)
+    (length s ≡ rowsBits) × ((k : ℕ) → k < 2 * r → getD s k 0 ≡ bit (x (k % r))) × ((k : ℕ) → 2 * r ≤ k → getD s k 0 ≡ 0)
 
 -- what `counters` asks of them
 abbrev Ready : ℕ → ℕ → List ℕ → List ℕ → Type 0
 Ready r d s h =
-    ((r < 24704) × (d ≤ length h) × (d ≤ 200))
+    ((r < wordBits) × (d ≤ length h) × (d ≤ 200))
     × (((i : ℕ) → i < d → getD h i 0 < r)
-    × ((length s ≡ 74112) × ((k : ℕ) → getD s k 0 ≤ 1) × ((k : ℕ) → 2 * r ≤ k → getD s k 0 ≡ 0)))
+    × ((length s ≡ rowsBits) × ((k : ℕ) → getD s k 0 ≤ 1) × ((k : ℕ) → 2 * r ≤ k → getD s k 0 ≡ 0)))
 
 module _ (level r d : ℕ) (at-r : r ≡ levelOf level .r) (at-d : d ≡ levelOf level .d) (s : List ℕ) (x : Poly) (rows : Rows r x s)
     (h : List ℕ) (rising : Rising (levelOf level) h) where
@@ -46,7 +47,7 @@ module _ (level r d : ℕ) (at-r : r ≡ levelOf level .r) (at-d : d ≡ levelOf
         (Listing.position-below r d h (omega arith) (rw (at-r, at-d) (rising .1)), (rows .0, small, rows .2)),
       )
 
-  counts : (c : List ℕ) → (length c ≡ 24704) × ((j : ℕ) → j < r → getD c j 0 ≡ total d (λ i. getD s (getD h i 0 + j) 0))
+  counts : (c : List ℕ) → (length c ≡ wordBits) × ((j : ℕ) → j < r → getD c j 0 ≡ total d (λ i. getD s (getD h i 0 + j) 0))
       → Counted (levelOf level .r) (support (take (levelOf level .d) h)) x c
   counts c is =
       rw (← at-r, ← at-d)
@@ -59,7 +60,7 @@ rows-requires c κs =
 
 -- what is known of the rows
 rows-are : (c : tie.After-rows) → Rows (c .before .before .before .before .block .result) (bits 64 (c .before .before .before .before .before .before .before .args .x)) (c .rows .last .1 .1 .0)
-rows-are c = (c .rows .kept .1 .1 .0 ∙ blank-length 74112 (c .before .before .blank-rows .ensures), c .rows .ensures .0, c .rows .ensures .1)
+rows-are c = (c .rows .kept .1 .1 .0 ∙ blank-length rowsBits (c .before .before .blank-rows .ensures), c .rows .ensures .0, c .rows .ensures .1)
 
 rows-ready : (c : tie.After-rows) (h : List ℕ) → Rising (levelOf (c .before .before .before .before .before .before .before .args .level)) h → Ready (c .before .before .before .before .block .result) (c .before .before .before .key-weight .result) (c .rows .last .1 .1 .0) h
 rows-ready c h rising =
@@ -67,7 +68,7 @@ rows-ready c h rising =
     ready (start .args .level) _ _ (c .before .before .before .before .block .ensures) (c .before .before .before .key-weight .ensures) (c .rows .last .1 .1 .0) (bits 64 (start .args .x)) (rows-are c) h rising
 
 rows-counts : (c : tie.After-rows) (h count : List ℕ) → Rising (levelOf (c .before .before .before .before .before .before .before .args .level)) h
-    → (length count ≡ 24704) × ((j : ℕ) → j < c .before .before .before .before .block .result → getD count j 0 ≡ total (c .before .before .before .key-weight .result) (λ i. getD (c .rows .last .1 .1 .0) (getD h i 0 + j) 0))
+    → (length count ≡ wordBits) × ((j : ℕ) → j < c .before .before .before .before .block .result → getD count j 0 ≡ total (c .before .before .before .key-weight .result) (λ i. getD (c .rows .last .1 .1 .0) (getD h i 0 + j) 0))
     → Counted (levelOf (c .before .before .before .before .before .before .before .args .level) .r) (support (take (levelOf (c .before .before .before .before .before .before .before .args .level) .d) h)) (bits 64 (c .before .before .before .before .before .before .before .args .x)) count
 rows-counts c h count rising is =
     let start = c .before .before .before .before .before .before .before in
@@ -97,8 +98,8 @@ returns : tie.Need-returns
 returns c =
     let made = c .before .before .before .before .before .before .before .before .before .before .before .before .before .before .before in
     let start = made .before .before .before .before .before .before .before in (
-      rows-counts made (start .args .key .h0) (c .before .before .before .before .before .before .before .before .counters .last .1 .1 .1 .1 .0) (start .pre .0 .0) (same-length c ∙ blank-length 24704 (start .pre .1 .0), c .before .before .before .before .before .before .before .before .counters .ensures),
-      rows-counts made (start .args .key .h1) (c .before .before .counters2 .last .1 .1 .1 .1 .0) (start .pre .0 .1) (same-length-2 c ∙ blank-length 24704 (start .pre .1 .1), c .before .before .counters2 .ensures),
+      rows-counts made (start .args .key .h0) (c .before .before .before .before .before .before .before .before .counters .last .1 .1 .1 .1 .0) (start .pre .0 .0) (same-length c ∙ blank-length wordBits (start .pre .1 .0), c .before .before .before .before .before .before .before .before .counters .ensures),
+      rows-counts made (start .args .key .h1) (c .before .before .counters2 .last .1 .1 .1 .1 .0) (start .pre .0 .1) (same-length-2 c ∙ blank-length wordBits (start .pre .1 .1), c .before .before .counters2 .ensures),
     )
 
 pub count-spec : {M : Type 1} → statement M
@@ -108,7 +109,7 @@ count-spec =
     (λ c κs. search needs)
     (λ c κs. search needs)
     (λ c κs. search needs)
-    (λ c. sym (blank-length 74112 (c .before .blank-rows .ensures)))
+    (λ c. sym (blank-length rowsBits (c .before .blank-rows .ensures)))
     rows-requires
     (λ c. search needs)
     (λ c. sym (rows-are (c .before .before .before .before .before) .0))

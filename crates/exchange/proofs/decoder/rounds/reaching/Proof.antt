@@ -2,6 +2,7 @@
 use mathlib.Core.Path.{sym}
 use borrow.Author.Needs.{needs}
 use Rattle.hashing.specs.Lists.{bits}
+use Rattle.ring.specs.inner.Sizes.{wordBits}
 use Rattle.ring.specs.Levels.{levelOf}
 use Rattle.exchange.specs.inner.Working.{keyOf, pairOf}
 use Rattle.exchange.proofs.decoder.Laws.{reached}
@@ -22,8 +23,8 @@ reaching-spec =
     (tie.spec
     (λ c κs. search needs)
     (λ c κs. search needs)
-    (λ c. sym (blank-length 24704 (c .before .before .blank-counts .ensures)))
-    (λ c. sym (blank-length 24704 (c .before .before .blank-counts2 .ensures)))
+    (λ c. sym (blank-length wordBits (c .before .before .blank-counts .ensures)))
+    (λ c. sym (blank-length wordBits (c .before .before .blank-counts2 .ensures)))
     (λ c κs. (c .before .before .before .before .pre, (c .before .before .before .blank-counts .ensures, c .before .before .blank-counts2 .ensures)))
     (λ c. sym (c .before .before .before .count .ensures .0 .0))
     (λ c. sym (c .before .before .before .before .count .ensures .1 .0))

@@ -7,6 +7,7 @@ use borrow.Author.Needs.{needs}
 use lib.Dec.{leb, ltb}
 use lib.ListN.{getD}
 use Rattle.hashing.specs.Lists.{bits}
+use Rattle.ring.specs.inner.Sizes.{wordBits}
 use Rattle.ring.specs.Levels.{levelOf}
 use Rattle.ring.specs.Polynomials.{Poly, weight}
 use Rattle.ring.proofs.Levels.{r-pos}
@@ -144,8 +145,8 @@ step-spec =
     bound-of-requires
     (λ c κs. search needs)
     (λ c κs. search needs)
-    (λ c. sym (blank-length 24704 (c .before .before .blank-counts .ensures)))
-    (λ c. sym (blank-length 24704 (c .before .before .blank-counts2 .ensures)))
+    (λ c. sym (blank-length wordBits (c .before .before .blank-counts .ensures)))
+    (λ c. sym (blank-length wordBits (c .before .before .blank-counts2 .ensures)))
     (λ c κs. (c .before .before .before .before .before .before .pre .0, (c .before .before .before .blank-counts .ensures, c .before .before .blank-counts2 .ensures)))
     (λ c. sym (c .before .before .before .count .ensures .0 .0))
     (λ c. sym (c .before .before .before .before .count .ensures .1 .0))

@@ -3,9 +3,9 @@ use mathlib.Core.Path.{sym}
 use native.Mathlib.Nat.{max-eq-left, max-eq-right}
 use native.Mathlib.Omega.{arith}
 use borrow.Author.Needs.{needs}
-use Rattle.ring.specs.Rows.{row}
+use Rattle.ring.specs.inner.Rows.{row}
+use Rattle.ring.proofs.Levels.{Bounds, bounds}
 use Rattle.exchange.specs.decoder.Decoder.{threshold}
-use Rattle.exchange.proofs.decoder.Laws.{Bounds, bounds}
 use Rattle.exchange.proofs.decoder.rounds.threshold.Statement.{statement}
 use Rattle.exchange.proofs.decoder.rounds.threshold.Tie as tie
 
@@ -14,7 +14,7 @@ limits c = rw (c .level-of .ensures) (bounds (c .before .args .level) (c .before
 
 mul-t : tie.Need-mul-t
 unfolding row
-mul-t c = omega (arith, limits (c .before) .product)
+mul-t c = omega (arith, limits (c .before) .sum)
 
 add-t : tie.Need-add-t
 unfolding row

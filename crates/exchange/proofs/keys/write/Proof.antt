@@ -1,8 +1,8 @@
--- `make` gives both keys where h0 has an inverse, and refuses with 5 where it has none.
-use mathlib.Core.Path.{_≡_, sym, _∙_}
-use mathlib.Core.Bool.{true}
+-- `write` gives both keys where h0 has an inverse, and says whether it has.
+use mathlib.Core.Path.{_≡_, sym, ap, _∙_}
+use mathlib.Core.Bool.{true, false, true≢false}
 use native.Mathlib.Omega.{arith}
-use lib.ListN.{length}
+use lib.ListN.{length, take, drop, length-drop}
 use borrow.Author.Needs.{needs}
 use borrow.Author.Tests.{not-true, not-false}
 use Rattle.hashing.specs.Lists.{bits}
@@ -11,10 +11,15 @@ use Rattle.ring.specs.Levels.{levelOf}
 use Rattle.ring.specs.Polynomials.{hasInverse, inverseOf}
 use Rattle.ring.proofs.Inverses.{inverse-found}
 use Rattle.ring.proofs.Levels.{r-pos, r-big, r-odd, r-small, r-cycle, sizes}
-use Rattle.exchange.specs.Scheme.{h0Of, publicOf}
-use Rattle.exchange.proofs.keys.Laws.{h0-half, h1-half, no-keys, both-keys}
-use Rattle.exchange.proofs.keys.make.Statement.{statement}
-use Rattle.exchange.proofs.keys.make.Tie as tie
+use Rattle.exchange.specs.Scheme.{h0Of, sigmaOf, publicOf}
+use Rattle.exchange.proofs.Judged.{MakingClear, making-clear}
+use Rattle.exchange.proofs.Parts.{rest-all}
+use Rattle.exchange.proofs.keys.Laws.{Half, half-is, h0-half, h1-half}
+use Rattle.exchange.proofs.keys.write.Statement.{statement}
+use Rattle.exchange.proofs.keys.write.Tie as tie
+
+judged : (c : tie.Start) → MakingClear (c .args .level) (c .args .seed .now) (length (c .args .public-key .now)) (length (c .args .private-key .now))
+judged c = making-clear (c .pre)
 
 invert-requires : tie.Need-invert-requires
 invert-requires c κs =
@@ -36,14 +41,8 @@ found c =
 
 returns : tie.Need-returns
 returns c =
-    let refused = c .before .before .before .before in
-    let tested = refused .before .before .before in
-    let inverted = tested .before .before in
-    let start = inverted .before .before .before .before .before .before .before .before in
-    let none = sym (found inverted .0) ∙ not-true (inverted .invert .result .exists) (tested .if1 .taken) in
-    rw (refused .refuse .ensures .0, refused .refuse .ensures .1, refused .refuse .ensures .2)
-    (sym (no-keys (start .args .level) (start .args .seed .now) (length (start .args .public-key .now)) (length (start .args .private-key .now))
-    (start .pre .0) (start .pre .1) (start .pre .2) (start .pre .3) none))
+    let inverted = c .before .before in
+    (sym (not-true (inverted .invert .result .exists) (c .if1 .taken)) ∙ found inverted .0, λ made. absurd (true≢false (sym made)))
 
 -- there is an inverse, and it is the value
 there : (c : tie.Else1) →
@@ -74,38 +73,60 @@ multiply-requires c κs =
 store-requires : tie.Need-store-requires
 store-requires c κs =
     let start = c .before .before .before .before .before .before .before .before .before .before .before .before .before in
-    let long = start .pre .2 in
+    let is = judged start in
     omega (arith, sizes (start .args .level))
 
+-- both halves have weight d
+half0 : (c : tie.After-both-halves) →
+    let l = levelOf (c .before .before .before .before .before .args .level) in
+    Half (l .r) (l .d) (bits 64 (c .both-halves .result .h0))
+half0 c =
+    let given = c .before .before .before .before .before .args in half-is (c .both-halves .ensures .0) (h0-half (given .level) (given .seed .now))
+
+half1 : (c : tie.After-both-halves) →
+    let l = levelOf (c .before .before .before .before .before .args .level) in
+    Half (l .r) (l .d) (bits 64 (c .both-halves .result .h1))
+half1 c =
+    let given = c .before .before .before .before .before .args in half-is (c .both-halves .ensures .1) (h1-half (given .level) (given .seed .now))
+
+write-private-requires : tie.Need-write-private-requires
+write-private-requires c κs =
+    let halves = c .before .before .before .before .before .before .before .before .before .before .before .before .before in
+    let start = halves .before .before .before .before .before in
+    let is = judged start in
+    let seed = start .args .seed .now in
+    let zero = half0 halves in
+    let one = half1 halves in
+    (omega (arith, ap length (rest-all 32 seed) ∙ length-drop 32 seed), ((zero .inside, one .inside), (zero .weighs, one .weighs)))
+
 returns-2 : tie.Need-returns-2
-unfolding bytesOf publicOf
+unfolding bytesOf publicOf sigmaOf
 returns-2 c =
     let wrote = c .before .before in
-    let stored = wrote .before .before .before .before in
+    let stored = wrote .before .before .before .before .before in
     let multiplied = stored .before .before in
     let else = multiplied .before .before in
     let halves = else .before .before .before .before .before in
     let start = halves .before .before .before .before .before in
     let product = rw (halves .before .block .ensures, halves .both-halves .ensures .1, value else) at (multiplied .multiply .ensures) in
-    let public = rw (product, start .pre .2) at (stored .store .ensures) in
-    rw (public, wrote .write-private .ensures)
-    (sym (both-keys (start .args .level) (start .args .seed .now) (length (start .args .public-key .now)) (length (start .args .private-key .now))
-    (start .pre .0) (start .pre .1) (start .pre .2) (start .pre .3) (there else)))
+    let public = rw (product, judged start .publicRoom) at (stored .store .ensures) in
+    let private = rw (halves .both-halves .ensures .0, halves .both-halves .ensures .1, rest-all 32 (start .args .seed .now)) at (wrote .write-private .ensures) in
+    (sym (there else), λ made. (public, private))
 
-pub make-spec : {M : Type 1} → statement M
-make-spec =
+pub write-spec : {M : Type 1} → statement M
+write-spec =
     tie.close
     (tie.spec
     (λ c κs. search needs)
-    (λ c κs. search needs)
+    (λ c κs. let is = judged (c .before .before .before .before) in omega arith)
     invert-requires
-    (λ c κs. search needs)
-    (λ c. search needs)
-    (λ c. search needs)
     returns
     multiply-requires
     store-requires
-    (λ c κs. search needs)
+    (λ c. let is = judged (c .before .before .before .before .before .before .before .before .before .before .before .before .before .before .before .before) in omega arith)
+    (λ c. let is = judged (c .before .before .before .before .before .before .before .before .before .before .before .before .before .before .before .before) in omega arith)
+    (λ c. search needs)
+    write-private-requires
     (λ c. search needs)
     (λ c. search needs)
     returns-2)

@@ -1,0 +1,186 @@
+-- What it says that a judge finds nothing, entry by entry, in both directions. Assumes nothing.
+use mathlib.Core.Path.{_≡_}
+use mathlib.Core.Bool.{true, false, _||_}
+use mathlib.Core.List.{List, [], _∷_}
+use Prim.Native.Nat.{ℕ}
+use borrow.Author.Tests.{eq-eqb, not-false}
+use lib.Dec.{lit<}
+use lib.ListN.{length, take}
+use Rattle.hashing.specs.Answers.{firstOf, differs}
+use Rattle.hashing.proofs.Answers.{Numbered, agree, clear}
+use Rattle.ring.specs.Bytes.{padSet}
+use Rattle.ring.specs.Levels.{Level, known, levelOf, messageBytes, seedBytes, polyBytes, ciphertextBytes, privateBytes}
+use Rattle.ring.proofs.Bools.{both-false}
+use Rattle.exchange.specs.decoder.PrivateKey.{goodKey}
+use Rattle.exchange.specs.Promises.{error-reasons, making-reasons, wrapping-reasons, content-reasons, decoding-reasons, opening-reasons}
+
+-- lengths that are right
+fits : (a b : ℕ) → a ≡ b → differs a b ≡ false
+unfolding differs
+fits a b same = rw (eq-eqb a b same)
+
+-- H
+pub record ErrorClear (level : ℕ) (m : List ℕ) (room0 room1 : ℕ) : Type 0 where
+  pub levelKnown : known level ≡ true
+  pub messageSize : length m ≡ messageBytes
+  pub room0Is : room0 ≡ polyBytes (levelOf level)
+  pub room1Is : room1 ≡ polyBytes (levelOf level)
+
+pub error-clear : {level : ℕ} {m : List ℕ} {room0 room1 : ℕ} → firstOf (error-reasons level m room0 room1) ≡ 0 → ErrorClear level m room0 room1
+unfolding error-reasons
+error-clear none =
+    let first = clear _ _ (lit< tt) none in
+    let second = clear _ _ (lit< tt) (first .1) in
+    let one = both-false _ _ (second .0) in
+    let zero = both-false _ _ (one .0) in
+    record {
+      levelKnown = not-false _ (first .0);
+      messageSize = agree _ _ (zero .0);
+      room0Is = agree _ _ (zero .1);
+      room1Is = agree _ _ (one .1);
+    }
+
+-- key making
+pub record MakingClear (level : ℕ) (seed : List ℕ) (roomPublic roomPrivate : ℕ) : Type 0 where
+  pub levelKnown : known level ≡ true
+  pub seedSize : length seed ≡ seedBytes
+  pub publicRoom : roomPublic ≡ polyBytes (levelOf level)
+  pub privateRoom : roomPrivate ≡ privateBytes (levelOf level)
+
+module _ {level : ℕ} {seed : List ℕ} {roomPublic roomPrivate : ℕ} where
+  pub making-clear : firstOf (making-reasons level seed roomPublic roomPrivate) ≡ 0 → MakingClear level seed roomPublic roomPrivate
+  unfolding making-reasons
+  making-clear none =
+      let first = clear _ _ (lit< tt) none in
+      let second = clear _ _ (lit< tt) (first .1) in
+      let one = both-false _ _ (second .0) in
+      let zero = both-false _ _ (one .0) in
+      record {
+        levelKnown = not-false _ (first .0);
+        seedSize = agree _ _ (zero .0);
+        publicRoom = agree _ _ (zero .1);
+        privateRoom = agree _ _ (one .1);
+      }
+
+  pub making-none : MakingClear level seed roomPublic roomPrivate → firstOf (making-reasons level seed roomPublic roomPrivate) ≡ 0
+  unfolding making-reasons firstOf
+  making-none is = rw (is .levelKnown, fits _ _ (is .seedSize), fits _ _ (is .publicRoom), fits _ _ (is .privateRoom))
+
+pub making-numbered : (level : ℕ) (seed : List ℕ) (roomPublic roomPrivate : ℕ) → Numbered (making-reasons level seed roomPublic roomPrivate)
+unfolding making-reasons
+making-numbered level seed roomPublic roomPrivate = (lit< tt, (lit< tt, tt))
+
+-- wrapping
+pub record WrappingClear (level : ℕ) (h m : List ℕ) (roomCiphertext roomKey : ℕ) : Type 0 where
+  pub levelKnown : known level ≡ true
+  pub publicSize : length h ≡ polyBytes (levelOf level)
+  pub messageSize : length m ≡ messageBytes
+  pub ciphertextRoom : roomCiphertext ≡ ciphertextBytes (levelOf level)
+  pub keyRoom : roomKey ≡ messageBytes
+  pub noPad : padSet (levelOf level .r) h ≡ false
+
+module _ {level : ℕ} {h m : List ℕ} {roomCiphertext roomKey : ℕ} where
+  pub wrapping-clear : firstOf (wrapping-reasons level h m roomCiphertext roomKey) ≡ 0 → WrappingClear level h m roomCiphertext roomKey
+  unfolding wrapping-reasons
+  wrapping-clear none =
+      let first = clear _ _ (lit< tt) none in
+      let second = clear _ _ (lit< tt) (first .1) in
+      let two = both-false _ _ (second .0) in
+      let one = both-false _ _ (two .0) in
+      let zero = both-false _ _ (one .0) in
+      record {
+        levelKnown = not-false _ (first .0);
+        publicSize = agree _ _ (zero .0);
+        messageSize = agree _ _ (zero .1);
+        ciphertextRoom = agree _ _ (one .1);
+        keyRoom = agree _ _ (two .1);
+        noPad = clear _ _ (lit< tt) (second .1) .0;
+      }
+
+  pub wrapping-none : WrappingClear level h m roomCiphertext roomKey → firstOf (wrapping-reasons level h m roomCiphertext roomKey) ≡ 0
+  unfolding wrapping-reasons firstOf
+  wrapping-none is =
+      rw (
+        is .levelKnown,
+        fits _ _ (is .publicSize),
+        fits _ _ (is .messageSize),
+        fits _ _ (is .ciphertextRoom),
+        fits _ _ (is .keyRoom),
+        is .noPad,
+      )
+
+-- a polynomial's pad and a private key
+pub record ContentClear (l : Level) (key polynomial : List ℕ) : Type 0 where
+  pub noPad : padSet (l .r) polynomial ≡ false
+  pub goodPositions : goodKey l key ≡ true
+
+module _ {l : Level} {key polynomial : List ℕ} where
+  content-clear : firstOf (content-reasons l key polynomial) ≡ 0 → ContentClear l key polynomial
+  unfolding content-reasons
+  content-clear none =
+      let first = clear _ _ (lit< tt) none in
+      record { noPad = first .0; goodPositions = not-false _ (clear _ _ (lit< tt) (first .1) .0) }
+
+  content-none : ContentClear l key polynomial → firstOf (content-reasons l key polynomial) ≡ 0
+  unfolding content-reasons firstOf
+  content-none is = rw (is .noPad, is .goodPositions)
+
+-- decoding
+pub record DecodingClear (level : ℕ) (key s : List ℕ) (room0 room1 : ℕ) : Type 0 where
+  pub levelKnown : known level ≡ true
+  pub keySize : length key ≡ privateBytes (levelOf level)
+  pub syndromeSize : length s ≡ polyBytes (levelOf level)
+  pub room0Is : room0 ≡ polyBytes (levelOf level)
+  pub room1Is : room1 ≡ polyBytes (levelOf level)
+  pub content : ContentClear (levelOf level) key s
+
+pub decoding-clear : {level : ℕ} {key s : List ℕ} {room0 room1 : ℕ} → firstOf (decoding-reasons level key s room0 room1) ≡ 0
+    → DecodingClear level key s room0 room1
+unfolding decoding-reasons
+decoding-clear none =
+    let first = clear _ _ (lit< tt) none in
+    let second = clear _ _ (lit< tt) (first .1) in
+    let two = both-false _ _ (second .0) in
+    let one = both-false _ _ (two .0) in
+    let zero = both-false _ _ (one .0) in
+    record {
+      levelKnown = not-false _ (first .0);
+      keySize = agree _ _ (zero .0);
+      syndromeSize = agree _ _ (zero .1);
+      room0Is = agree _ _ (one .1);
+      room1Is = agree _ _ (two .1);
+      content = content-clear (second .1);
+    }
+
+pub decoding-numbered : (level : ℕ) (key s : List ℕ) (room0 room1 : ℕ) → Numbered (decoding-reasons level key s room0 room1)
+unfolding decoding-reasons content-reasons
+decoding-numbered level key s room0 room1 = (lit< tt, (lit< tt, (lit< tt, (lit< tt, tt))))
+
+-- opening
+pub record OpeningClear (level : ℕ) (key c : List ℕ) (roomKey : ℕ) : Type 0 where
+  pub levelKnown : known level ≡ true
+  pub keySize : length key ≡ privateBytes (levelOf level)
+  pub ciphertextSize : length c ≡ ciphertextBytes (levelOf level)
+  pub keyRoom : roomKey ≡ messageBytes
+  pub content : ContentClear (levelOf level) key (take (polyBytes (levelOf level)) c)
+
+module _ {level : ℕ} {key c : List ℕ} {roomKey : ℕ} where
+  pub opening-clear : firstOf (opening-reasons level key c roomKey) ≡ 0 → OpeningClear level key c roomKey
+  unfolding opening-reasons
+  opening-clear none =
+      let first = clear _ _ (lit< tt) none in
+      let second = clear _ _ (lit< tt) (first .1) in
+      let one = both-false _ _ (second .0) in
+      let zero = both-false _ _ (one .0) in
+      record {
+        levelKnown = not-false _ (first .0);
+        keySize = agree _ _ (zero .0);
+        ciphertextSize = agree _ _ (zero .1);
+        keyRoom = agree _ _ (one .1);
+        content = content-clear (second .1);
+      }
+
+  pub opening-none : OpeningClear level key c roomKey → firstOf (opening-reasons level key c roomKey) ≡ 0
+  unfolding opening-reasons firstOf
+  opening-none is =
+      rw (is .levelKnown, fits _ _ (is .keySize), fits _ _ (is .ciphertextSize), fits _ _ (is .keyRoom)) (content-none (is .content))
