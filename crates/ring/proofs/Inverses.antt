@@ -1,7 +1,6 @@
 -- Inverses: there is at most one; the search through the ring finds it; and where 2^(r-1) mod r = 1 the power a^(2^(r-1) - 2) is
 -- the inverse of a, or a has none. Assumes nothing.
 use mathlib.Core.Path.{_≡_, refl, sym, ap, _∙_}
-use mathlib.Core.Logic.{_↔_}
 use mathlib.Core.Bool.{Bool, true, false, not, _||_, true≢false}
 use Prim.Native.Nat.{ℕ, zero, suc, _+_, _-_, _*_, _%_, _^_, _≤_, _<_}
 use native.Mathlib.Nat.{le-refl, not-suc-le-zero, mod-eq-of-lt}
@@ -103,9 +102,6 @@ module _ (r : ℕ) (pos : 0 < r) where
     where
       digits : bitAt (number r b) ≡ b
       digits = Ring.ring-ext r (λ k past. bit-above (number r b) r k (number-lt r b) past) (hb .inside) (bitAt-number r b)
-
-  pub has-inverse : (a : Poly) → (hasInverse r a ≡ true) ↔ ((b : Poly) × IsInverse r a b)
-  has-inverse a = (λ e. (inverseOf r a, inverse-found a e), λ h. inverse-exists (h .1))
 
   pub no-inverse : {a b : Poly} → hasInverse r a ≡ false → IsInverse r a b → ⊥
   no-inverse e hb = true≢false (sym (inverse-exists hb) ∙ e)

@@ -1,4 +1,4 @@
--- The chain of products that builds a^(2^(r-1) - 2), as CR 10 has it: "with u = r - 2, build a to the power 2^u - 1 by reading u's
+-- The chain of products that builds a^(2^(r-1) - 2), as CR 10 has it: "with u = r − 2, build a to the power 2^u − 1 by reading u's
 -- binary digits from the second highest down, one product to double the exponent's length and one more where the digit is 1; then
 -- square. Squarings aren't products": k squarings are `spread r (2 ^ k)`. Assumes nothing.
 use mathlib.Core.Bool.{Bool, true, false}

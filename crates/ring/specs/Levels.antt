@@ -67,7 +67,7 @@ padBits l = 8 * polyBytes l - l .r
 abbrev pub ciphertextBytes : Level → ℕ
 ciphertextBytes l = polyBytes l + messageBytes
 
--- "d positions of h0, d positions of h1, two bytes each; then sigma"
+-- "d positions of h0, d positions of h1, two bytes each", "then sigma"
 abbrev pub privateBytes : Level → ℕ
 privateBytes l = 2 * (l .d + l .d) + tailBytes
 

@@ -8,7 +8,7 @@ pub mod multiply;
 pub mod positions;
 pub mod size;
 pub mod sparse;
-pub mod square;
+mod square;
 pub mod unpack;
 pub mod words;
 

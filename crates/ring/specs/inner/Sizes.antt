@@ -20,14 +20,11 @@ wordBits = 64 * words
 abbrev pub wordBytes : ℕ
 wordBytes = 8 * words
 
--- a polynomial twice in a row: in words, with one that the last window reads, and one byte to a bit
+-- a polynomial twice in a row, in words, with one that the last window reads
 abbrev pub twiceWords : ℕ
 twiceWords = 2 * words + 1
 
-abbrev pub twiceBits : ℕ
-twiceBits = 2 * wordBits
-
--- and three times, for the decoder's rows
+-- and three times, one byte to a bit, for the decoder's rows
 abbrev pub rowsBits : ℕ
 rowsBits = 3 * wordBits
 
