@@ -18,14 +18,14 @@ use Rattle.ring.proofs.Bools.{both-false}
 use Rattle.ring.proofs.Layouts.{bits-bytesOf}
 use Rattle.ring.proofs.Levels.{r-pos}
 use Rattle.ring.proofs.Ring.{mul-in}
-use Rattle.exchange.specs.Fits.{FromKeyMaking, Bytes, WellFormed, Fits}
+use Rattle.exchange.specs.Fits.{FromKeyMaking, Bytes, WellFormed, Fits, Fitting}
 use Rattle.exchange.specs.Opening.{opened}
 use Rattle.exchange.specs.decoder.Decoder.{bgf}
 use Rattle.exchange.specs.Promises.{MakeKeyPromise, making-reasons, make-key-says, wrap-says, open-says}
 use Rattle.exchange.specs.Scheme.{hashK, h0Of, publicOf, privateOf, wrapped}
 use Rattle.exchange.proofs.Demand.{wrapped-well-formed}
 use Rattle.exchange.proofs.Judged.{MakingClear, making-none, making-numbered}
-use Rattle.exchange.proofs.Pairs.{made-of, wraps, opens, Demand3, demand-3}
+use Rattle.exchange.proofs.Pairs.{made-of, wraps, opens, demand-3}
 use Rattle.both_ends.specs.BothEnds.{sentTo, both-ends-reasons, both-ends-says, BothEndsPromise, Finds, Agree}
 
 -- a front is not longer than the whole
@@ -132,8 +132,8 @@ module _ (level : ℕ) (seed m public private : List ℕ) (pair : FromKeyMaking 
       opens level seed public private pair (sentTo (levelOf level) seed m) well-formed
       ∙ ap (λ (key : List ℕ). gives 0 (opened bgf (levelOf level) key (sentTo (levelOf level) seed m) ∷ [])) private-is
 
-  demand : Demand3 level seed public private (sentTo (levelOf level) seed m)
-  demand = demand-3 level seed public private pair (sentTo (levelOf level) seed m) well-formed
+  demand : Fitting level seed public private (sentTo (levelOf level) seed m)
+  demand = demand-3 level seed public private (sentTo (levelOf level) seed m) pair well-formed
 
   fits : Finds bgf (levelOf level) seed m → Fits bgf (levelOf level) public private (sentTo (levelOf level) seed m) m
   fits found =

@@ -41,7 +41,7 @@ abbrev pub BothEndsPromise : ℕ → List ℕ → List ℕ → ℕ → ℕ → �
 BothEndsPromise level seed m roomSent roomOpened r sent opened =
     gives r (sent ∷ opened ∷ []) ≡ both-ends-says level seed m roomSent roomOpened
 
--- "the decoder finds the message's error"
+-- the decoder finds the message's error in what is sent
 pub record Finds (decoder : Decoder) (l : Level) (seed m : List ℕ) : Type 0 where
   pub decodes : failed decoder l (secret l (privateOf l seed)) (syndromeOf l (privateOf l seed) (sentTo l seed m)) ≡ false
   pub finds : decoder l (secret l (privateOf l seed)) (syndromeOf l (privateOf l seed) (sentTo l seed m)) ≡ hashH l m
@@ -50,8 +50,8 @@ pub record Finds (decoder : Decoder) (l : Level) (seed m : List ℕ) : Type 0 wh
 abbrev pub FitsSent : Decoder → Level → List ℕ → List ℕ → List ℕ → Type 0
 FitsSent decoder l seed m n = Fits decoder l (bytesOf (l .r) (publicOf l seed)) (privateOf l seed) (sentTo l seed m) n
 
--- "the same session key at both ends whenever the decoder finds the message's error, and the substitute's key otherwise": it may be that
--- the decoder finds the error of another message that fits, and then the key is that one's
+-- What opening gives is the sent key whenever the decoder finds the message's error. It may be that it finds the error of another message
+-- that fits: then it is the key of that one. Where none fits it is the substitute's.
 pub record Agree (l : Level) (seed m sent opened : List ℕ) : Type 0 where
   pub same : Finds bgf l seed m → opened ≡ sent
   pub another : (n : List ℕ) → FitsSent bgf l seed m n → opened ≡ hashK n (sentTo l seed m)

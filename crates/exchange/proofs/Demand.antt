@@ -1,7 +1,8 @@
 -- Demand 3, over the definitions that the contracts cite, once for every level. Assumes nothing.
-use mathlib.Core.Path.{_≡_, refl, sym, ap, ap₂, _∙_, fun-ext}
+use mathlib.Core.Path.{_≡_, refl, sym, ap, ap₂, _∙_}
 use mathlib.Core.Bool.{Bool, true, false, true≢false}
 use mathlib.Core.List.{List, _++_}
+use mathlib.Core.Logic.{_⊎_, inl, inr}
 use Prim.Native.Nat.{ℕ, zero, suc, _+_, _≤_, _<_}
 use native.Mathlib.Decide.{ℕ-discrete}
 use native.Mathlib.Nat.{not-suc-le-zero}
@@ -21,12 +22,12 @@ use Rattle.ring.specs.Levels.{Level, messageBytes, polyBytes}
 use Rattle.ring.specs.Polynomials.{Poly, InRing, bit, same, weight, one, add, mul}
 use Rattle.ring.proofs.Inverses.{same-equal}
 use Rattle.ring.proofs.Layouts.{Below, bytesOf-length, bytesOf-below, bytesOf-bits, bytesOf-pad, pad-rule}
-use Rattle.ring.proofs.Parity.{flip-self, flip-false}
+use Rattle.ring.proofs.Parity.{flip-self}
 use Rattle.ring.proofs.Ring
 use Rattle.ring.proofs.Bools.{both-true}
 use Rattle.exchange.proofs.Errors.{error-in0, error-in1}
 use Rattle.exchange.proofs.Streams.{below-append, below-take, below-drop, below-tab}
-use Rattle.exchange.proofs.decoder.Laws.{InPair, Stays, pair-path, residual-in, found-of, found-none}
+use Rattle.exchange.proofs.decoder.Laws.{InPair, Stays, pair-path, add-none, residual-in, found-of, found-none}
 use Rattle.exchange.specs.decoder.Decoder.{Decoder, Pair, nothing, residual, failed, found}
 use Rattle.exchange.specs.Fits.{Bytes, WellFormed, Fits}
 use Rattle.exchange.specs.decoder.PrivateKey.{secret, sigma}
@@ -59,12 +60,21 @@ module _ (decoder : Decoder) (l : Level) {public private c m : List ℕ} where
       rw (← (fits .wraps), drop-at (bytesOf (l .r) (add (hashH l m .half0) (mul (l .r) (hashH l m .half1) (bits 8 public)))) (xorBytes m (hashL (l .r) (hashH l m))) (polyBytes l) (bytesOf-length (l .r) _))
       (xor-twice m (hashL (l .r) (hashH l m)) (fits .message .size))
 
+  fits-found : Fits decoder l public private c m → found decoder l (secret l private) (syndromeOf l private c) ≡ hashH l m
+  fits-found fits = found-of decoder l _ _ (fits .decodes) ∙ fits .finds
+
+  -- and opening's check passes
+  fits-same : Fits decoder l public private c m →
+      let e = found decoder l (secret l private) (syndromeOf l private c) in
+      sameError (l .r) e (hashH l (messageOf l e c)) ≡ true
+  unfolding sameError
+  fits-same fits =
+      rw (fits-found fits, fits-message fits, same-refl (l .r) (hashH l m .half0), same-refl (l .r) (hashH l m .half1))
+
   -- "If one fits, opening gives the session key that wrapping m gave"
   pub fitting-opens : Fits decoder l public private c m → opened decoder l private c ≡ hashK m c
-  unfolding opened keyFor sameError
-  fitting-opens fits =
-      let e : found decoder l (secret l private) (syndromeOf l private c) ≡ hashH l m = found-of decoder l _ _ (fits .decodes) ∙ fits .finds in
-      rw (e, fits-message fits, same-refl (l .r) (hashH l m .half0), same-refl (l .r) (hashH l m .half1))
+  unfolding opened keyFor
+  fitting-opens fits = rw (fits-same fits, fits-found fits, fits-message fits)
 
 -- "At most one m fits a ciphertext"
 pub at-most-one : (decoder : Decoder) (l : Level) {public private c m n : List ℕ} → Fits decoder l public private c m → Fits decoder l public private c n → m ≡ n
@@ -107,10 +117,6 @@ pub record Matched (r : ℕ) (h : Poly) (k : Pair) : Type 0 where
   pub inverse : Poly
   pub inverts : mul r (k .half0) inverse ≡ one r
   pub made : h ≡ mul r (k .half1) inverse
-
-add-none : (a : Poly) → add a (λ k. false) ≡ a
-unfolding add
-add-none a = fun-ext (λ k. flip-false (a k))
 
 module _ (r : ℕ) (pos : 0 < r) where
   undo : (k : Pair) (g a : Poly) → mul r (k .half0) g ≡ one r → InRing r a → mul r (mul r a (k .half0)) g ≡ a
@@ -228,6 +234,25 @@ module _ (decoder : Decoder) (l : Level) (pos : 0 < l .r) (stays : Stays decoder
 
       halves : (same (l .r) (e .half0) (hashH l (messageOf l e c) .half0) ≡ true) × (same (l .r) (e .half1) (hashH l (messageOf l e c) .half1) ≡ true)
       halves = both-true _ _ same-error
+
+  -- a message fits, or none does: opening's own check tells
+  pub one-or-none : ((m : List ℕ) × Fits decoder l public private c m) ⊎ ((m : List ℕ) → Fits decoder l public private c m → ⊥)
+  one-or-none = go (sameError (l .r) e (hashH l (messageOf l e c))) (failed decoder l k s) refl refl
+    where
+      k : Pair
+      k = secret l private
+
+      s : Poly
+      s = syndromeOf l private c
+
+      e : Pair
+      e = found decoder l k s
+
+      go : (same-error failure : Bool) → sameError (l .r) e (hashH l (messageOf l e c)) ≡ same-error → failed decoder l k s ≡ failure
+          → ((m : List ℕ) × Fits decoder l public private c m) ⊎ ((m : List ℕ) → Fits decoder l public private c m → ⊥)
+      go same-error true q p = inr (λ m fits. true≢false (sym p ∙ fits .decodes))
+      go false false q p = inr (λ m fits. true≢false (sym (fits-same decoder l fits) ∙ q))
+      go true false q p = inl (messageOf l e c, same-fits p q)
 
   -- "if none fits, the key worked out from the substitute sigma and this ciphertext"
   pub none-opens : ((m : List ℕ) → sameError (l .r) nothing (hashH l m) ≡ false) → ((m : List ℕ) → Fits decoder l public private c m → ⊥)

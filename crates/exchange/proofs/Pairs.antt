@@ -22,11 +22,11 @@ use Rattle.ring.proofs.Ring.{mul-in}
 use Rattle.ring.proofs.Weights.{weight-ext, weight-none}
 use Rattle.exchange.specs.decoder.Decoder.{Pair, nothing, bgf}
 use Rattle.exchange.specs.decoder.PrivateKey.{secret, goodKey, sigma}
-use Rattle.exchange.specs.Fits.{FromKeyMaking, WellFormed, Fits}
+use Rattle.exchange.specs.Fits.{FromKeyMaking, WellFormed, Fitting, Demand3}
 use Rattle.exchange.specs.Opening.{sameError, opened}
 use Rattle.exchange.specs.Promises.{making-reasons, make-key-says, wrap-says, open-says}
 use Rattle.exchange.specs.Scheme.{hashH, hashK, h0Of, h1Of, sigmaOf, publicOf, privateOf, wrapped}
-use Rattle.exchange.proofs.Demand.{Matched, at-most-one, no-two, fitting-opens, none-opens}
+use Rattle.exchange.proofs.Demand.{Matched, at-most-one, no-two, one-or-none, fitting-opens, none-opens}
 use Rattle.exchange.proofs.Errors.{error-weight}
 use Rattle.exchange.proofs.Judged.{MakingClear, making-clear, making-numbered, wrapping-none, opening-none}
 use Rattle.exchange.proofs.Making.{positions0-back, positions1-back, tail-back, secret-back, rising-good}
@@ -100,17 +100,6 @@ never-nothing level m = go (sameError (levelOf level .r) nothing (hashH (levelOf
     go true e = absurd (omega (arith, weighs-nothing (levelOf level .r) (hashH (levelOf level) m) e, error-weight level m, sizes level .t-least))
     go false e = refl
 
--- "If one fits, opening gives the session key that wrapping m gave; if none fits, the key worked out from the substitute sigma and this
--- ciphertext, with the same answer number."
-pub record Demand3 (level : ℕ) (seed public private c : List ℕ) : Type 0 where
-  pub at-most-one : (m n : List ℕ) → Fits bgf (levelOf level) public private c m → Fits bgf (levelOf level) public private c n → m ≡ n
-  pub never-two : (m d : List ℕ) → Fits bgf (levelOf level) public private c m → Fits bgf (levelOf level) public private d m → c ≡ d
-  pub if-one-fits : (m : List ℕ) → Fits bgf (levelOf level) public private c m
-      → (wrap-says level public m (length c) messageBytes ≡ gives 0 (c ∷ hashK m c ∷ []))
-      × (open-says level private c messageBytes ≡ gives 0 (hashK m c ∷ []))
-  pub if-none-fits : ((m : List ℕ) → Fits bgf (levelOf level) public private c m → ⊥)
-      → open-says level private c messageBytes ≡ gives 0 (hashK (sigmaOf seed) c ∷ [])
-
 module _ (level : ℕ) (seed public private : List ℕ) (pair : FromKeyMaking level seed public private) where
   made : Made level seed public private
   made = made-of level seed public private pair
@@ -154,11 +143,13 @@ module _ (level : ℕ) (seed public private : List ℕ) (pair : FromKeyMaking le
     opens-with : {key : List ℕ} → opened bgf (levelOf level) private c ≡ key → open-says level private c messageBytes ≡ gives 0 (key ∷ [])
     opens-with is = opens ∙ ap (λ (key : List ℕ). gives 0 (key ∷ [])) is
 
-    pub demand-3 : Demand3 level seed public private c
-    demand-3 =
+    fitting : Fitting level seed public private c
+    fitting =
+        let pair = matched level seed public private made in
         record {
           at-most-one = λ m n. at-most-one bgf (levelOf level);
           never-two = λ m d. no-two bgf (levelOf level);
+          one-or-none = one-or-none bgf (levelOf level) (r-pos level) (bgf-in (levelOf level)) public private c wellFormed pair;
           if-one-fits = λ m fits. (
             ap (λ (n : ℕ). wrap-says level public m n messageBytes) (wellFormed .bytes .size) ∙ wraps m (fits .message .size)
                 ∙ ap (λ (d : List ℕ). gives 0 (d ∷ hashK m d ∷ [])) (fits .wraps),
@@ -166,6 +157,9 @@ module _ (level : ℕ) (seed public private : List ℕ) (pair : FromKeyMaking le
           );
           if-none-fits = λ none.
               opens-with
-              (none-opens bgf (levelOf level) (r-pos level) (bgf-in (levelOf level)) public private c wellFormed (matched level seed public private made) (never-nothing level) none
+              (none-opens bgf (levelOf level) (r-pos level) (bgf-in (levelOf level)) public private c wellFormed pair (never-nothing level) none
               ∙ ap (λ (last : List ℕ). hashK last c) (sigma-is level seed public private made));
         }
+
+pub demand-3 : Demand3
+demand-3 level seed public private c pair wellFormed = fitting level seed public private pair c wellFormed

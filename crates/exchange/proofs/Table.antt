@@ -1,12 +1,26 @@
 -- P1 to P12 hold. Assumes nothing.
-use mathlib.Core.Path.{refl}
+use mathlib.Core.Path.{_≡_, refl, ap, _∙_}
+use Prim.Native.Nat.{ℕ, _-_, _<_}
 use lib.Dec.{lit<}
 use Rattle.ring.proofs.Examples.{P1, P2, P3, P4}
 use Rattle.ring.specs.Levels.{level1, level3}
-use Rattle.ring.specs.Polynomials.{terms, power, add, weight, listed}
-use Rattle.exchange.specs.decoder.Decoder.{counter, threshold}
+use Rattle.ring.specs.Polynomials.{Poly, terms, power, add, weight, listed}
+use Rattle.exchange.specs.decoder.Decoder.{Pair, counter, residual, threshold, boundOf, step}
 use Rattle.exchange.specs.Examples.{Examples}
 use Rattle.exchange.specs.Sampler.{candidate, appended, sampleBelow, sample}
+use Rattle.exchange.proofs.decoder.Laws.{step-idles}
+
+-- the bound for gray bits, 99 - 3, is above d too
+nothing-flips : (h : Pair) (s : Poly) (e : Pair) → weight (level1 .r) (h .half0) ≡ level1 .d → weight (level1 .r) (h .half1) ≡ level1 .d
+    → weight (level1 .r) (residual (level1 .r) h s e) ≡ 12323 → (i : ℕ) → step level1 h s i e ≡ e
+unfolding boundOf threshold level1
+nothing-flips h s e weighs0 weighs1 full = step-idles level1 h s e (few weighs0) (few weighs1)
+  where
+    bound : boundOf level1 h s e ≡ 99
+    bound = rw full
+
+    few : {w : ℕ} → w ≡ level1 .d → w < boundOf level1 h s e - 3
+    few is = rw (is, bound) (lit< tt)
 
 pub examples : Examples
 unfolding listed candidate appended sampleBelow sample threshold level1 level3 counter weight terms power add
@@ -22,6 +36,6 @@ examples =
       P8 = refl;
       P9 = (refl, refl);
       P10 = (refl, refl);
-      P11 = (refl, lit< tt);
+      P11 = (refl, lit< tt, nothing-flips);
       P12 = (refl, refl, refl);
     }

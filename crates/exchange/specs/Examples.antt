@@ -1,11 +1,11 @@
--- "Checked examples. Proved (P1 to P12)", as one claim. Assumes nothing.
+-- "Checked examples", those "Proved (P1 to P12)", as one claim. Assumes nothing.
 use mathlib.Core.Path.{_≡_}
 use mathlib.Core.Bool.{false}
 use mathlib.Core.List.{[], _∷_}
-use Prim.Native.Nat.{_-_, _^_, _<_}
+use Prim.Native.Nat.{ℕ, _-_, _^_, _<_}
 use Rattle.ring.specs.Levels.{level1, level3}
-use Rattle.ring.specs.Polynomials.{mul, terms, IsInverse, hasInverse}
-use Rattle.exchange.specs.decoder.Decoder.{counter, threshold}
+use Rattle.ring.specs.Polynomials.{Poly, mul, terms, weight, IsInverse, hasInverse, inverseOf}
+use Rattle.exchange.specs.decoder.Decoder.{Pair, counter, residual, threshold, step}
 use Rattle.exchange.specs.Sampler.{sample}
 
 pub record Examples : Type 0 where
@@ -13,8 +13,9 @@ pub record Examples : Type 0 where
   pub P1 : mul 5 (terms 5 (0 ∷ 1 ∷ [])) (terms 5 (0 ∷ 1 ∷ 2 ∷ [])) ≡ terms 5 (0 ∷ 3 ∷ [])
   -- the inverse of 1+X+X² is X+X²+X⁴
   pub P2 : IsInverse 5 (terms 5 (0 ∷ 1 ∷ 2 ∷ [])) (terms 5 (1 ∷ 2 ∷ 4 ∷ []))
+      × (inverseOf 5 (terms 5 (0 ∷ 1 ∷ 2 ∷ [])) ≡ terms 5 (1 ∷ 2 ∷ 4 ∷ []))
   -- the inverse of X is X⁴
-  pub P3 : IsInverse 5 (terms 5 (1 ∷ [])) (terms 5 (4 ∷ []))
+  pub P3 : IsInverse 5 (terms 5 (1 ∷ [])) (terms 5 (4 ∷ [])) × (inverseOf 5 (terms 5 (1 ∷ [])) ≡ terms 5 (4 ∷ []))
   -- 1+X has none, nor has 1+X+X²+X³+X⁴
   pub P4 : (hasInverse 5 (terms 5 (0 ∷ 1 ∷ [])) ≡ false) × (hasInverse 5 (terms 5 (0 ∷ 1 ∷ 2 ∷ 3 ∷ 4 ∷ [])) ≡ false)
   -- len 5, wt 2; the words are listed s_0 first
@@ -26,8 +27,10 @@ pub record Examples : Type 0 where
   pub P9 : (threshold level1 3366 ≡ 36) × (threshold level1 3367 ≡ 37)
   -- Level 3: S = 7168 gives 52, S = 7169 gives 53
   pub P10 : (threshold level3 7168 ≡ 52) × (threshold level3 7169 ≡ 53)
-  -- Level 1: S = 12323 gives 99, above d
+  -- Level 1: S = 12323 gives 99, above d, so nothing flips: no round changes e, round 1 with its two more steps neither
   pub P11 : (threshold level1 12323 ≡ 99) × (level1 .d < 99)
+      × ((h : Pair) (s : Poly) (e : Pair) → weight (level1 .r) (h .half0) ≡ level1 .d → weight (level1 .r) (h .half1) ≡ level1 .d
+      → weight (level1 .r) (residual (level1 .r) h s e) ≡ 12323 → (i : ℕ) → step level1 h s i e ≡ e)
   -- r = 7, h0 = 1+X+X³, residual the same: counters at 0, 1, 2 are 3, 1, 1
   pub P12 : (counter 7 (terms 7 (0 ∷ 1 ∷ 3 ∷ [])) (terms 7 (0 ∷ 1 ∷ 3 ∷ [])) 0 ≡ 3)
       × (counter 7 (terms 7 (0 ∷ 1 ∷ 3 ∷ [])) (terms 7 (0 ∷ 1 ∷ 3 ∷ [])) 1 ≡ 1)

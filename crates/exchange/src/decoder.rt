@@ -1,8 +1,8 @@
 // The Black-Gray-Flip decoder: how a private key is read, the counters, the rounds.
-pub mod counters;
-pub mod halves;
-pub mod private_key;
-pub mod rounds;
+mod counters;
+mod halves;
+mod private_key;
+mod rounds;
 
 pub use crate::decoder::private_key::Key;
 pub use crate::decoder::private_key::is_good;

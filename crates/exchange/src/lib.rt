@@ -2,16 +2,16 @@
 // number that shows only in the work comes after the judge's.
 pub mod bytes;
 pub mod decoder;
-pub mod decoding;
-pub mod digest;
+mod decoding;
+mod digest;
 pub mod doors;
-pub mod error;
-pub mod judge;
+mod error;
+mod judge;
 pub mod keys;
-pub mod opening;
+mod opening;
 pub mod record;
-pub mod sampler;
-pub mod wrapping;
+mod sampler;
+mod wrapping;
 
 use hashing::refuse;
 pub use record::read_record;

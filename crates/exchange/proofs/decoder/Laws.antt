@@ -2,21 +2,22 @@
 use mathlib.Core.Path.{_≡_, refl, sym, ap, ap₂, _∙_, fun-ext}
 use mathlib.Core.Bool.{Bool, true, false, not, _&&_, and-false}
 use mathlib.Core.List.{List}
-use Prim.Native.Nat.{ℕ, zero, suc, _+_, _-_, _*_, _/_, _≤_, _<_}
+use Prim.Native.Nat.{ℕ, zero, suc, _+_, _-_, _*_, _/_, _%_, _≤_, _<_}
 use native.Mathlib.Decide.{decLt}
 use native.Mathlib.Nat.{not-suc-le-zero, add-sub-of-le, add-zero, le-add-right, le-trans, le-max-right}
 use native.Mathlib.Numerals.{add-one}
 use native.Mathlib.Omega.{arith}
-use borrow.Author.Tests.{le-ltb}
+use borrow.Author.Tests.{le-ltb, lt-leb}
 use lib.Dec.{leb, ltb}
 use lib.ListN.{length, getD, take}
 use Rattle.ring.specs.inner.Sizes.{mostD, words}
 use Rattle.ring.specs.Levels.{Level, levelOf}
-use Rattle.ring.specs.Polynomials.{Poly, InRing, flip, add, weight, support}
+use Rattle.ring.specs.Polynomials.{Poly, InRing, flip, both, bit, add, weight, support}
 use Rattle.ring.proofs.Bools.{both-true}
 use Rattle.ring.proofs.Levels.{facts, sizes}
+use Rattle.ring.proofs.Parity.{flip-false}
 use Rattle.ring.proofs.Ring
-use Rattle.exchange.specs.decoder.Decoder.{Decoder, Pair, counter, threshold, nothing, residual, passing, reaching, among, without, flipped, black, gray, round, maskedStep, step, after, bgf, failed, found}
+use Rattle.exchange.specs.decoder.Decoder.{Decoder, Pair, counter, threshold, nothing, residual, passing, reaching, among, without, flipped, boundOf, black, gray, round, maskedStep, step, after, bgf, failed, found}
 use Rattle.exchange.specs.decoder.PrivateKey.{positions0, positions1, secret, risingFrom, goodKey}
 use Rattle.exchange.specs.inner.Working.{keyOf, Good, Counted}
 use Rattle.exchange.specs.declared.decoder.private_key
@@ -62,6 +63,60 @@ module _ (l : Level) (h : Pair) (s : Poly) where
   unfolding step
   step-in zero e he = masked-in _ _ (masked-in _ _ (round-in e he))
   step-in (suc i) e he = round-in e he
+
+-- a counter is at most the weight of its half of the key
+counter-le : (r : ℕ) (h res : Poly) (j : ℕ) → counter r h res j ≤ weight r h
+unfolding counter weight
+counter-le r h res j = go r
+  where
+    one : (a b : Bool) → bit (both a b) ≤ bit a
+    one true true = omega arith
+    one true false = omega arith
+    one false b = omega arith
+
+    go : (n : ℕ) → weight n (λ p. both (h p) (res ((j + p) % r))) ≤ weight n h
+    go zero = omega arith
+    go (suc n) = omega (arith, go n, one (h n) (res ((j + n) % r)))
+
+-- a bound above the weight of both halves is reached by no bit
+none-reach : (r : ℕ) (h : Pair) (res : Poly) (bound : ℕ) → weight r (h .half0) < bound → weight r (h .half1) < bound
+    → reaching r h res bound ≡ nothing
+unfolding reaching passing nothing
+none-reach r h res bound few0 few1 = pair-path (none (h .half0) few0) (none (h .half1) few1)
+  where
+    none : (a : Poly) → weight r a < bound → _≡_ {A = Poly} (λ j. ltb j r && leb bound (counter r a res j)) (λ j. false)
+    none a few = fun-ext (λ j. rw (lt-leb bound (counter r a res j) (omega (arith, counter-le r a res j))) (and-false (ltb j r)))
+
+pub add-none : (a : Poly) → add a (λ k. false) ≡ a
+unfolding add
+add-none a = fun-ext (λ k. flip-false (a k))
+
+flip-nothing : (e : Pair) → flipped e nothing ≡ e
+unfolding flipped nothing
+flip-nothing e = pair-path (add-none (e .half0)) (add-none (e .half1))
+
+-- so where even the bound for gray bits is above both weights no round changes e, round 1 with its two more steps neither
+module _ (l : Level) (h : Pair) (s : Poly) (e : Pair) (few0 : weight (l .r) (h .half0) < boundOf l h s e - 3) (few1 : weight (l .r) (h .half1) < boundOf l h s e - 3) where
+  no-black : black l h s e ≡ nothing
+  unfolding black
+  no-black = none-reach (l .r) h _ _ (omega arith) (omega arith)
+
+  no-gray : gray l h s e ≡ nothing
+  unfolding gray without nothing
+  no-gray = rw (none-reach (l .r) h (residual (l .r) h s e) (boundOf l h s e - 3) few0 few1)
+
+  round-idles : round l h s e ≡ e
+  unfolding round
+  round-idles = rw no-black (flip-nothing e)
+
+  masked-idles : maskedStep l h s nothing e ≡ e
+  unfolding maskedStep among nothing
+  masked-idles = flip-nothing e
+
+  pub step-idles : (i : ℕ) → step l h s i e ≡ e
+  unfolding step
+  step-idles zero = rw (no-black, no-gray, round-idles, masked-idles, masked-idles)
+  step-idles (suc i) = round-idles
 
 -- rounds that stay in the ring, and a decoder that does
 pub after-in : (r : ℕ) (round : ℕ → Pair → Pair) → ((i : ℕ) (e : Pair) → InPair r e → InPair r (round i e)) → (n : ℕ) → InPair r (after round n)

@@ -1,12 +1,12 @@
 -- Positions that rise below r: what their polynomial is to the ring, and to the counters. Assumes nothing.
-use mathlib.Core.Path.{_≡_, refl, sym, ap, _∙_, fun-ext}
-use mathlib.Core.Bool.{Bool, true, false, _&&_, _||_, and-false}
+use mathlib.Core.Path.{_≡_, refl, sym, ap, ap₂, _∙_, fun-ext}
+use mathlib.Core.Bool.{Bool, true, false, _&&_, _||_, and-false, true≢false}
 use mathlib.Core.List.{List, [], _∷_}
 use Prim.Native.Nat.{ℕ, zero, suc, _+_, _*_, _%_, _≤_, _<_}
-use native.Mathlib.Nat.{not-suc-le-zero, le-of-suc-le-suc, mod-eq-of-lt, zero-add, add-comm}
-use native.Mathlib.Decide.{ℕ-discrete}
+use native.Mathlib.Nat.{not-suc-le-zero, le-refl, le-of-suc-le-suc, mod-eq-of-lt, zero-add, add-comm}
+use native.Mathlib.Decide.{decLt, ℕ-discrete}
 use native.Mathlib.Omega.{arith}
-use borrow.Author.Tests.{eq-eqb, ne-eqb, leb-true, ltb-true}
+use borrow.Author.Tests.{eq-eqb, ne-eqb, le-leb, lt-ltb, leb-true, ltb-true}
 use lib.Dec.{eqb, leb, ltb}
 use lib.ListN.{length, getD, take}
 use lib.Seq.{getD-take, length-take-le}
@@ -32,12 +32,49 @@ rising-below r least [] e i h = absurd (not-suc-le-zero h)
 rising-below r least (p ∷ rest) e zero h = rising-head r least p rest e .1
 rising-below r least (p ∷ rest) e (suc i) h = rising-below r (suc p) rest (rising-head r least p rest e .2) i (le-of-suc-le-suc h)
 
+-- they rise from the first of them on
+rising-own : (r least p : ℕ) (rest : List ℕ) → risingFrom r least (p ∷ rest) ≡ true → risingFrom r p (p ∷ rest) ≡ true
+unfolding risingFrom
+rising-own r least p rest e =
+    let head = rising-head r least p rest e in rw (le-leb p p (le-refl p), lt-ltb p r (head .1)) (head .2)
+
+head-listed : (p : ℕ) (rest : List ℕ) → listed p (p ∷ rest) ≡ true
+unfolding listed
+head-listed p rest = rw (eq-eqb p p refl)
+
 rising-fresh : (r least : ℕ) (ps : List ℕ) → risingFrom r least ps ≡ true → (p : ℕ) → p < least → listed p ps ≡ false
 unfolding listed
 rising-fresh r least [] e p h = refl
 rising-fresh r least (q ∷ rest) e p h =
     let head = rising-head r least q rest e in
     rw (ne-eqb p q (λ same. omega (arith, head .0))) (rising-fresh r (suc q) rest (head .2) p (omega (arith, head .0)))
+
+-- two such lists of one polynomial are the same: the smaller head would be listed in one and not in the other
+pub rising-unique : (r least : ℕ) (ps qs : List ℕ) → risingFrom r least ps ≡ true → risingFrom r least qs ≡ true
+    → support ps ≡ support qs → ps ≡ qs
+unfolding support listed
+rising-unique r least [] [] e f same = refl
+rising-unique r least [] (q ∷ qs) e f same = absurd (true≢false (sym (head-listed q qs) ∙ ap (λ (a : Poly). a q) (sym same)))
+rising-unique r least (p ∷ ps) [] e f same = absurd (true≢false (sym (head-listed p ps) ∙ ap (λ (a : Poly). a p) same))
+rising-unique r least (p ∷ ps) (q ∷ qs) e f same = go (decLt p q) (decLt q p) (rising-unique r (suc p) ps qs)
+  where
+    at : (k : ℕ) → listed k (p ∷ ps) ≡ listed k (q ∷ qs)
+    at k = ap (λ (a : Poly). a k) same
+
+    -- below the head nothing is listed, and the rest lists what the whole does but the head
+    tails : p ≡ q → (k : ℕ) → Dec (k ≡ p) → listed k ps ≡ listed k qs
+    tails heads k (yes here) =
+        let head = rising-head r least p ps e in
+        let other = rising-head r least q qs f in
+        rising-fresh r (suc p) ps (head .2) k (omega arith) ∙ sym (rising-fresh r (suc q) qs (other .2) k (omega arith))
+    tails heads k (no there) = rw (ne-eqb k p there, ne-eqb k q (λ is. there (is ∙ sym heads))) at (at k)
+
+    go : Dec (p < q) → Dec (q < p) → (risingFrom r (suc p) ps ≡ true → risingFrom r (suc p) qs ≡ true → support ps ≡ support qs → ps ≡ qs) → p ∷ ps ≡ q ∷ qs
+    go (yes less) more rest = absurd (true≢false (sym (head-listed p ps) ∙ at p ∙ rising-fresh r q (q ∷ qs) (rising-own r least q qs f) p less))
+    go (no less) (yes more) rest = absurd (true≢false (sym (head-listed q qs) ∙ sym (at q) ∙ rising-fresh r p (p ∷ ps) (rising-own r least p ps e) q more))
+    go (no less) (no more) rest =
+        let heads : p ≡ q = omega arith in
+        ap₂ _∷_ heads (rest (rising-head r least p ps e .2) (rw (← heads) at (rising-head r least q qs f .2)) (fun-ext (λ k. tails heads k (ℕ-discrete k p))))
 
 -- their sum of powers has just them for exponents
 pub terms-support : (r least : ℕ) (ps : List ℕ) → risingFrom r least ps ≡ true → terms r ps ≡ support ps

@@ -18,7 +18,7 @@ counter r h residual j = weight r (λ p. both (h p) (residual ((j + p) % r)))
 unfoldable pub residual : ℕ → Pair → Poly → Pair → Poly
 residual r h s e = add s (add (mul r (e .half0) (h .half0)) (mul r (e .half1) (h .half1)))
 
--- "T the threshold: max(floor((slope·S + offset) / divisor), least)"
+-- "T the threshold": max(floor((slope·S + offset) / divisor), least), by the numbers of the level
 unfoldable pub threshold : Level → ℕ → ℕ
 threshold l S = max ((l .slope * S + l .offset) / l .divisor) (l .least)
 
