@@ -1,5 +1,5 @@
 -- P1 to P12 hold. Assumes nothing.
-use mathlib.Core.Path.{_≡_, refl, ap, _∙_}
+use mathlib.Core.Path.{_≡_, refl}
 use Prim.Native.Nat.{ℕ, _-_, _<_}
 use lib.Dec.{lit<}
 use Rattle.ring.proofs.Examples.{P1, P2, P3, P4}

@@ -1,5 +1,5 @@
 -- The promise of each public entry of this crate admits just one outcome; and when `inverse` gives 5. Assumes nothing.
-use mathlib.Core.Path.{_≡_, refl, sym, ap, _∙_}
+use mathlib.Core.Path.{_≡_, refl, sym, ap}
 use mathlib.Core.Bool.{Bool, true, false, not}
 use mathlib.Core.List.{List}
 use mathlib.Core.Logic.{_↔_}
@@ -12,7 +12,7 @@ use Rattle.hashing.specs.Lists.{bits}
 use Rattle.hashing.proofs.Answers.{done, refused, last-applies, last-clear, one-outcome, one-output}
 use Rattle.ring.specs.Bytes.{padSet}
 use Rattle.ring.specs.Levels.{known, levelOf, polyBytes}
-use Rattle.ring.specs.Polynomials.{Poly, InRing, one, mul, hasInverse, inverseOf}
+use Rattle.ring.specs.Polynomials.{Poly, InRing, one, mul, hasInverse}
 use Rattle.ring.specs.Promises.{ProductPromise, inverse-reasons, inverse-says, InversePromise}
 use Rattle.ring.proofs.Inverses.{inverse-found, no-inverse}
 use Rattle.ring.proofs.Judging.{inverse-numbered}

@@ -1,7 +1,7 @@
 -- The weight of a polynomial: what changes it, how it splits, and that of a word. Assumes nothing.
 use mathlib.Core.Path.{_≡_, refl, sym, ap, ap₂, _∙_}
-use mathlib.Core.Bool.{Bool, false, _||_}
-use Prim.Native.Nat.{ℕ, zero, suc, _+_, _/_, _%_, _^_, _<_}
+use mathlib.Core.Bool.{Bool, true, false, _||_}
+use Prim.Native.Nat.{ℕ, zero, suc, _+_, _/_, _%_, _^_, _≤_, _<_}
 use native.Mathlib.Nat.{not-suc-le-zero, le-refl, add-zero, add-suc, add-assoc, add-comm, mod-lt, mod-eq-of-lt, le-of-suc-le-suc}
 use native.Mathlib.Numerals.{add-one}
 use native.Mathlib.Decide.{ℕ-discrete}
@@ -13,7 +13,7 @@ use lib.Pow.{pow-pos, split, shr-lt}
 use borrow.Author.Tests.{eq-eqb, ne-eqb}
 use Rattle.hashing.specs.Lists.{bitAt}
 use Rattle.hashing.proofs.Words.{bit-mod}
-use Rattle.ring.specs.Polynomials.{Poly, bit, weight}
+use Rattle.ring.specs.Polynomials.{Poly, both, bit, weight}
 use Rattle.ring.proofs.Binary.{bit-bitAt}
 
 pub weight-ext : (n : ℕ) {a b : Poly} → ((k : ℕ) → k < n → a k ≡ b k) → weight n a ≡ weight n b
@@ -26,6 +26,17 @@ pub weight-none : (n : ℕ) → weight n (λ k. false) ≡ 0
 unfolding weight
 weight-none zero = refl
 weight-none (suc n) = rw (weight-none n)
+
+-- the exponents that two polynomials share are no more than those of one
+pub weight-both : (n : ℕ) (a b : Poly) → weight n (λ k. both (a k) (b k)) ≤ weight n a
+unfolding weight
+weight-both zero a b = le-refl 0
+weight-both (suc n) a b = omega (arith, weight-both n a b, each (a n) (b n))
+  where
+    each : (s t : Bool) → bit (both s t) ≤ bit s
+    each true true = le-refl 1
+    each true false = omega arith
+    each false t = le-refl 0
 
 -- the coefficients below m, and those from m on
 pub weight-add : (m n : ℕ) (a : Poly) → weight (m + n) a ≡ weight m a + weight n (λ k. a (m + k))

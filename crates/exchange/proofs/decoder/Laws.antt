@@ -2,7 +2,7 @@
 use mathlib.Core.Path.{_≡_, refl, sym, ap, ap₂, _∙_, fun-ext}
 use mathlib.Core.Bool.{Bool, true, false, not, _&&_, and-false}
 use mathlib.Core.List.{List}
-use Prim.Native.Nat.{ℕ, zero, suc, _+_, _-_, _*_, _/_, _%_, _≤_, _<_}
+use Prim.Native.Nat.{ℕ, zero, suc, _+_, _-_, _*_, _/_, _≤_, _<_}
 use native.Mathlib.Decide.{decLt}
 use native.Mathlib.Nat.{not-suc-le-zero, add-sub-of-le, add-zero, le-add-right, le-trans, le-max-right}
 use native.Mathlib.Numerals.{add-one}
@@ -12,7 +12,7 @@ use lib.Dec.{leb, ltb}
 use lib.ListN.{length, getD, take}
 use Rattle.ring.specs.inner.Sizes.{mostD, words}
 use Rattle.ring.specs.Levels.{Level, levelOf}
-use Rattle.ring.specs.Polynomials.{Poly, InRing, flip, both, bit, add, weight, support}
+use Rattle.ring.specs.Polynomials.{Poly, InRing, flip, add, weight, support}
 use Rattle.ring.proofs.Bools.{both-true}
 use Rattle.ring.proofs.Levels.{facts, sizes}
 use Rattle.ring.proofs.Parity.{flip-false}
@@ -21,7 +21,7 @@ use Rattle.exchange.specs.decoder.Decoder.{Decoder, Pair, counter, thres
 use Rattle.exchange.specs.decoder.PrivateKey.{positions0, positions1, secret, risingFrom, goodKey}
 use Rattle.exchange.specs.inner.Working.{keyOf, Good, Counted}
 use Rattle.exchange.specs.declared.decoder.private_key
-use Rattle.ring.proofs.Weights.{weight-ext, weight-none, weight-add}
+use Rattle.ring.proofs.Weights.{weight-ext, weight-none, weight-add, weight-both}
 
 pub pair-path : {e f : Pair} → e .half0 ≡ f .half0 → e .half1 ≡ f .half1 → e ≡ f
 pair-path p q = λ i. record { half0 = p i; half1 = q i }
@@ -66,17 +66,8 @@ module _ (l : Level) (h : Pair) (s : Poly) where
 
 -- a counter is at most the weight of its half of the key
 counter-le : (r : ℕ) (h res : Poly) (j : ℕ) → counter r h res j ≤ weight r h
-unfolding counter weight
-counter-le r h res j = go r
-  where
-    one : (a b : Bool) → bit (both a b) ≤ bit a
-    one true true = omega arith
-    one true false = omega arith
-    one false b = omega arith
-
-    go : (n : ℕ) → weight n (λ p. both (h p) (res ((j + p) % r))) ≤ weight n h
-    go zero = omega arith
-    go (suc n) = omega (arith, go n, one (h n) (res ((j + n) % r)))
+unfolding counter
+counter-le r h res j = weight-both r h _
 
 -- a bound above the weight of both halves is reached by no bit
 none-reach : (r : ℕ) (h : Pair) (res : Poly) (bound : ℕ) → weight r (h .half0) < bound → weight r (h .half1) < bound
