@@ -1,5 +1,5 @@
-/* Times of the library and of the second program in one run, and the library's stack: key making, wrapping and opening at each
- * level. */
+/* Processor time of the library and of the second program in one run, and the library's stack: key making, wrapping and opening at
+ * each level. */
 #include <pthread.h>
 #include <stdio.h>
 #include <stdlib.h>
@@ -11,7 +11,7 @@
 #include "bike.h"
 #include "doors.h"
 
-enum { DEFAULT_MILLISECONDS = 500, MOST_MILLISECONDS = 60000, STACK_BYTES = 1 << 21, MARK = 0xa5 };
+enum { DEFAULT_MILLISECONDS = 500, MOST_MILLISECONDS = 60000, RUNS = 9, STACK_BYTES = 1 << 21, MARK = 0xa5 };
 
 static const char program[] = "bench";
 
@@ -63,21 +63,39 @@ static void *done(void *argument)
 static double seconds(void)
 {
     struct timespec now;
-    clock_gettime(CLOCK_MONOTONIC, &now);
+    clock_gettime(CLOCK_PROCESS_CPUTIME_ID, &now);
     return (double)now.tv_sec + (double)now.tv_nsec / 1e9;
 }
 
 /* Milliseconds of one call, from as many calls as fill the time. */
-static double time_of(struct job job, unsigned long milliseconds)
+static double time_of(struct job job, double milliseconds)
 {
     unsigned long calls = 0;
     double start = seconds(), taken = 0;
-    while (calls == 0 || taken * 1000 < (double)milliseconds) {
+    while (calls == 0 || taken * 1000 < milliseconds) {
         done(&job);
         calls++;
         taken = seconds() - start;
     }
     return taken * 1000 / (double)calls;
+}
+
+/* Of several runs that fill the time together. */
+struct times {
+    double median, least;
+};
+
+static struct times times_of(struct job job, unsigned long milliseconds)
+{
+    double rising[RUNS];
+    for (int n = 0; n < RUNS; n++) {
+        double time = time_of(job, (double)milliseconds / RUNS);
+        int at = n;
+        for (; at > 0 && rising[at - 1] > time; at--)
+            rising[at] = rising[at - 1];
+        rising[at] = time;
+    }
+    return (struct times){rising[RUNS / 2], rising[0]};
 }
 
 /* How much of a thread's own stack does not hold the mark any more. */
@@ -112,13 +130,21 @@ static void bench(const struct level *v, unsigned long milliseconds)
     struct source g = source_of("bench");
     source_bytes(&g, lent.seed, sizeof lent.seed);
     source_bytes(&g, lent.message, sizeof lent.message);
-    printf("Level %lu         library    reference   reference / library   library's stack\n", (unsigned long)v->number);
+    printf("Level %lu               library           reference  reference / library  library's stack\n",
+           (unsigned long)v->number);
     for (size_t i = 0; i < sizeof works / sizeof works[0]; i++) {
         struct job ours = {works[i].call, &library, v}, theirs = {works[i].call, &reference, v};
-        double library_time = time_of(ours, milliseconds), reference_time = time_of(theirs, milliseconds);
-        printf("  %-10s %8.3f ms  %8.3f ms  %20.2f  %13lu kB\n", works[i].name, library_time, reference_time,
-               reference_time / library_time, (unsigned long)(stack_of(ours) + 999) / 1000);
+        struct times a = times_of(ours, milliseconds), b = times_of(theirs, milliseconds);
+        printf("  %-10s %8.3f %8.3f   %8.3f %8.3f %20.2f %13lu kB\n", works[i].name, a.median, a.least, b.median, b.least,
+               b.median / a.median, (unsigned long)(stack_of(ours) + 999) / 1000);
     }
+}
+
+/* What host/run tells by this name. */
+static const char *told(const char *name)
+{
+    const char *text = getenv(name);
+    return text != NULL && text[0] != '\0' ? text : "unknown";
 }
 
 int main(int argc, char **argv)
@@ -127,8 +153,10 @@ int main(int argc, char **argv)
         refuse(program, "wanted: at most one number, the milliseconds to spend on each figure", "");
     unsigned long milliseconds = argc == 2 ? number_of(program, argv[1], MOST_MILLISECONDS) : DEFAULT_MILLISECONDS;
     const char *emulator = getenv("EMULATOR");
+    printf("Processor: %s; kit: %s.\n", told("PROCESSOR"), told("KIT"));
     if (emulator != NULL && emulator[0] != '\0')
         puts("Under an emulator: the times are the emulator's, and say little about the code.");
+    printf("Processor time of a call in milliseconds, median and least of %d runs.\n", RUNS);
     bench(level_of(1), milliseconds);
     bench(level_of(3), milliseconds);
     puts("Decoding has no door of its own; it is most of opening.");

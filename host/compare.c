@@ -6,9 +6,10 @@
 
 #include "../reference/casefile.h"
 #include "../reference/generator.h"
+#include "../reference/wrong.h"
 #include "doors.h"
 
-enum { GUARD = 64, GUARD_BYTE = 0x3c, OLD_BYTE = 0xa5, MOST = 1000000 };
+enum { GUARD = 64, GUARD_BYTE = 0x3c, OLD_BYTE = 0xa5, MOST = 1000000, PROGRESS = 500 };
 
 static const char program[] = "compare";
 
@@ -86,14 +87,17 @@ struct counts {
     unsigned long made[ENTRIES], refused;
 };
 
-static bool compare(struct source *g, unsigned long count, struct counts *counts)
+/* The reading is the second program's: 0 is the right one, and any other ought to show. */
+static bool compare(struct source *g, unsigned long count, int reading, struct counts *counts)
 {
     static struct test_case c;
     static struct outcome got, wanted;
     for (unsigned long i = 1; i <= count; i++) {
         random_case_of(&c, g, MAKE_KEY + source_below(g, 3));
         run(&library, &c, &got);
+        ref_wrong = reading;
         run(&reference, &c, &wanted);
+        ref_wrong = W_NONE;
         const char *what = difference(&c, &got, &wanted);
         if (what != NULL) {
             printf("call %lu (entry %lu, level %lu): %s; answers %lu and, by the reference, %lu\n", i,
@@ -103,6 +107,8 @@ static bool compare(struct source *g, unsigned long count, struct counts *counts
         }
         counts->made[c.entry]++;
         counts->refused += got.answer != 0;
+        if (i % PROGRESS == 0)
+            fprintf(stderr, "compare: %lu of %lu calls agree\n", i, count);
     }
     return true;
 }
@@ -120,14 +126,16 @@ int main(int argc, char **argv)
 {
     char fresh[17];
     struct counts counts = {0};
-    if (argc != 2 && argc != 3)
-        refuse(program, "wanted: COUNT, the number of calls, and perhaps the SEED of an earlier run", "");
+    if (argc < 2 || argc > 4)
+        refuse(program, "wanted: COUNT, the number of calls, perhaps the SEED of an earlier run, and a wrong reading", "");
     unsigned long count = number_of(program, argv[1], MOST);
+    int reading = argc == 4 ? (int)number_of(program, argv[3], W_COUNT - 1) : W_NONE;
     fresh_seed(fresh, sizeof fresh);
-    const char *seed = argc == 3 ? argv[2] : fresh;
+    const char *seed = argc >= 3 ? argv[2] : fresh;
     printf("seed %s\n", seed);
+    fflush(stdout); /* a run that is broken off has told its seed */
     struct source g = source_of(seed);
-    if (!compare(&g, count, &counts))
+    if (!compare(&g, count, reading, &counts))
         return 1;
     printf("%lu agree: %lu key makings, %lu wrappings, %lu openings; %lu of them refusals\n", count,
            counts.made[MAKE_KEY], counts.made[WRAP], counts.made[OPEN], counts.refused);

@@ -274,7 +274,9 @@ static bool same_error(const struct level *v, const struct poly e[2], const stru
         return true;
     if (wrong(W_OPEN_WEIGHT))
         return poly_weight(&e[0]) + poly_weight(&e[1]) == v->t;
-    return poly_equal(&e[0], &f[0]) && poly_equal(&e[1], &f[1]) && !wrong(W_OPEN_SIGMA);
+    bool same0 = poly_equal(&e[0], &f[0]) || wrong(W_OPEN_E1);
+    bool same1 = poly_equal(&e[1], &f[1]) || wrong(W_OPEN_E0);
+    return same0 && same1 && !wrong(W_OPEN_SIGMA);
 }
 
 /* The key is K(m', c) if e' = H(m'), else K(sigma, c); gives whether it is the first. */

@@ -119,24 +119,30 @@ static void committed_errors(struct source *g, const struct level *v)
     }
 }
 
-/* Found by tells --search: together they tell every wrong reading of the decoder, at Level 1 at least twice. */
-static const struct {
+struct numbered {
     uint32_t level;
     enum error_kind kind;
     uint32_t weight, number;
-} telling[] = {
+};
+
+/* Found by tells --search: together they tell each wrong reading of the decoder up to W_WEIGHT_T, at Level 1 at least
+ * twice. */
+static const struct numbered telling[] = {
     {1, PLAIN, 134, 0},     {1, STRAY_BIT, 134, 0},  {1, PLAIN, 156, 6},         {1, PLAIN, 160, 4},
     {1, PLAIN, 160, 15},    {1, PLAIN, 162, 20},     {1, CLOSE_KEY, 20, 1},      {1, CLOSE_KEY, 26, 145},
     {1, OWN_PATTERN, 35, 22}, {1, OWN_PATTERN, 36, 40}, {3, STRAY_BIT, 199, 0},  {3, PLAIN, 222, 2},
     {3, PLAIN, 222, 3},     {3, CLOSE_KEY, 30, 15},  {3, OWN_PATTERN, 52, 18},   {3, OWN_PATTERN, 52, 22},
 };
 
-static void committed_decoding(const struct level *v)
+/* These tell W_SLOPE, which shows at few weights of the residual (4657 and 10397 here), and W_LEAST. */
+static const struct numbered telling_threshold[] = {{1, WINDOW_KEY, 123, 875}, {3, WINDOW_KEY, 221, 1920}};
+
+static void committed_decoding(const struct level *v, const struct numbered list[], size_t n)
 {
     struct test_case c;
-    for (size_t i = 0; i < sizeof telling / sizeof telling[0]; i++) {
-        if (telling[i].level == v->number) {
-            case_decode_numbered(&c, v, telling[i].kind, telling[i].weight, telling[i].number);
+    for (size_t i = 0; i < n; i++) {
+        if (list[i].level == v->number) {
+            case_decode_numbered(&c, v, list[i].kind, list[i].weight, list[i].number);
             emit(&c);
         }
     }
@@ -184,8 +190,9 @@ static void committed_exchange(struct source *g, const struct level *v)
     case_wrap(&c, v, &ones, m);
     if (in_full(v))
         emit(&c);
-    for (int how = HONEST; how < OPENINGS; how++) {
-        opening_case(&c, g, v, (enum opening)how, how == HONEST);
+    for (int how = HONEST; how <= ANY_BYTES; how++) {
+        struct key key = random_key(g, v);
+        opening_case(&c, g, v, &key, (enum opening)how, how == HONEST);
         if (in_full(v) || how <= C0_BIT)
             emit(&c);
     }
@@ -297,6 +304,18 @@ static void committed_levels(struct source *g)
     }
 }
 
+/* The decoder finds an error that differs from H(m') in one half alone. */
+static void committed_halves(struct source *g, const struct level *v)
+{
+    struct test_case c;
+    for (int how = MOVED_E0; how <= MOVED_E1; how++) {
+        struct key key = random_key(g, v);
+        opening_case(&c, g, v, &key, (enum opening)how, 0);
+        emit(&c);
+    }
+}
+
+/* What is added comes last, so that the cases before it keep their bytes and their ordinals. */
 void committed(void)
 {
     struct source g = source_of("committed");
@@ -307,12 +326,17 @@ void committed(void)
         const struct level *v = level_of(level);
         committed_ring(&g, v);
         committed_errors(&g, v);
-        committed_decoding(v);
+        committed_decoding(v, telling, sizeof telling / sizeof telling[0]);
         committed_examples(&g, v);
         committed_exchange(&g, v);
         committed_lengths(&g, v);
         committed_pads(&g, v);
         committed_positions(&g, v);
         committed_together(&g, v);
+    }
+    for (uint32_t level = 1; level <= 3; level += 2) {
+        const struct level *v = level_of(level);
+        committed_decoding(v, telling_threshold, sizeof telling_threshold / sizeof telling_threshold[0]);
+        committed_halves(&g, v);
     }
 }

@@ -10,11 +10,12 @@ struct marks {
 
 uint32_t threshold(const struct level *v, uint32_t S)
 {
-    uint64_t sum = v->slope * S + v->offset;
+    uint64_t sum = (v->slope + wrong(W_SLOPE)) * S + v->offset;
+    uint32_t least = v->least - wrong(W_LEAST);
     if (wrong(W_THRESHOLD_UP))
         sum += v->divisor - 1;
     uint32_t T = (uint32_t)(sum / v->divisor);
-    return T > v->least || wrong(W_NO_LEAST) ? T : v->least;
+    return T > least || wrong(W_NO_LEAST) ? T : least;
 }
 
 void count_all(uint32_t r, uint32_t d, const uint32_t h[], const struct poly *residual, uint8_t count[])

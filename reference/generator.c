@@ -87,6 +87,11 @@ struct key close_key(struct source *g, const struct level *v)
     return key_within(g, v, 4 * v->d);
 }
 
+struct key window_key(struct source *g, const struct level *v)
+{
+    return key_within(g, v, v->number == 1 ? 2000 : 3200);
+}
+
 void message_replacing(struct source *g, const struct level *v, uint32_t replaced, uint8_t *m)
 {
     struct poly e[2];
@@ -245,7 +250,7 @@ void case_decode_numbered(struct test_case *c, const struct level *v, enum error
     snprintf(label, sizeof label, "decode %u %u %u %u", (unsigned)v->number, (unsigned)kind, (unsigned)weight,
              (unsigned)number);
     struct source g = source_of(label);
-    struct key key = kind == CLOSE_KEY ? close_key(&g, v) : random_key(&g, v);
+    struct key key = (kind == CLOSE_KEY ? close_key : kind == WINDOW_KEY ? window_key : random_key)(&g, v);
     struct poly e[2];
     if (kind == OWN_PATTERN)
         own_error(&g, v, &key, weight, e);
@@ -264,27 +269,51 @@ struct poly random_public_key(struct source *g, const struct level *v)
     return poly_product(v->r, &h1, &inverse);
 }
 
-void opening_case(struct test_case *c, struct source *g, const struct level *v, enum opening how,
-                         uint32_t replaced)
+/* A place whose bit is `set`. */
+static uint32_t random_place(struct source *g, const struct level *v, const struct poly *a, bool set)
+{
+    uint32_t place;
+    do
+        place = source_below(g, v->r);
+    while (poly_bit(a, place) != set);
+    return place;
+}
+
+static void move_bit(struct source *g, const struct level *v, struct poly *a)
+{
+    uint32_t from = random_place(g, v, a, true), to = random_place(g, v, a, false);
+    poly_flip(a, from);
+    poly_flip(a, to);
+}
+
+void opening_case(struct test_case *c, struct source *g, const struct level *v, const struct key *key,
+                  enum opening how, uint32_t replaced)
 {
     uint8_t m[SHORT_BYTES], ciphertext[(R_MAX + 7) / 8 + SHORT_BYTES];
-    struct key key = random_key(g, v);
     struct poly e[2];
     message_replacing(g, v, replaced, m);
     hash_H(v, m, e);
     if (how == OTHER_ERROR || how == LIGHT_ERROR)
         random_error(g, v, how == OTHER_ERROR ? v->t : 5, e);
-    struct poly syndrome = how == NO_SYNDROME ? poly_zero() : syndrome_of(v, &key, e);
+    if (how == MOVED_E0 || how == MOVED_E1)
+        move_bit(g, v, &e[how == MOVED_E1]);
+    struct poly syndrome = how == NO_SYNDROME ? poly_zero() : syndrome_of(v, key, e);
     if (how == ANY_BYTES)
         syndrome = random_poly(g, v);
     if (how == STRAY)
         poly_flip(&syndrome, source_below(g, v->r));
-    ciphertext_of(v, &key, &syndrome, e, m, ciphertext);
+    ciphertext_of(v, key, &syndrome, e, m, ciphertext);
     if (how == C0_BIT)
         ciphertext[source_below(g, (uint32_t)polynomial_bytes(v) - 1)] ^= 1;
     if (how == C1_BIT)
         ciphertext[ciphertext_bytes(v) - 1] ^= 0x80;
-    case_open(c, v, &key, ciphertext);
+    case_open(c, v, key, ciphertext);
+}
+
+static void honest_opening(struct test_case *c, struct source *g, const struct level *v)
+{
+    struct key key = random_key(g, v);
+    opening_case(c, g, v, &key, HONEST, 0);
 }
 
 void ordinary_case(struct test_case *c, struct source *g, uint32_t entry, const struct level *v)
@@ -299,7 +328,7 @@ void ordinary_case(struct test_case *c, struct source *g, uint32_t entry, const 
     case DECODE: case_decode_numbered(c, v, PLAIN, v->t, source_below(g, UINT32_MAX)); break;
     case MAKE_KEY: case_make_key(c, v, seed); break;
     case WRAP: case_wrap(c, v, &a, seed); break;
-    default: opening_case(c, g, v, HONEST, 0); break;
+    default: honest_opening(c, g, v); break;
     }
 }
 

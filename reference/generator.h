@@ -28,6 +28,8 @@ struct poly random_public_key(struct source *g, const struct level *v);
 struct key random_key(struct source *g, const struct level *v);
 /* All positions of a half within 4d places. */
 struct key close_key(struct source *g, const struct level *v);
+/* All positions of a half within so many places that about half of H's errors decode: there a wrong decoder shows. */
+struct key window_key(struct source *g, const struct level *v);
 /* A message for which H's sampler replaces exactly so many positions. */
 void message_replacing(struct source *g, const struct level *v, uint32_t replaced, uint8_t *m);
 void random_error(struct source *g, const struct level *v, uint32_t weight, struct poly e[2]);
@@ -50,15 +52,18 @@ void case_record(struct test_case *c, struct source *g, uint32_t body, uint32_t 
 size_t thing_bytes(const struct level *v, uint32_t thing);
 
 /* Decoder cases: a random error; with one stray bit in the syndrome; under a key whose positions stand close together;
- * at so many of each half's own positions. Numbered, so that a search can find those that tell a wrong reading. */
-enum error_kind { PLAIN, STRAY_BIT, CLOSE_KEY, OWN_PATTERN, ERROR_KINDS };
+ * at so many of each half's own positions; under a key of a window. Numbered, so that a search can find those that
+ * tell a wrong reading. */
+enum error_kind { PLAIN, STRAY_BIT, CLOSE_KEY, OWN_PATTERN, WINDOW_KEY, ERROR_KINDS };
 void case_decode_numbered(struct test_case *c, const struct level *v, enum error_kind kind, uint32_t weight,
                           uint32_t number);
 
-/* A ciphertext with its key: an honest one, or one whose error, message or bytes are not what wrapping gives. */
-enum opening { HONEST, STRAY, OTHER_ERROR, LIGHT_ERROR, C0_BIT, C1_BIT, NO_SYNDROME, ANY_BYTES, OPENINGS };
-void opening_case(struct test_case *c, struct source *g, const struct level *v, enum opening how,
-                  uint32_t replaced);
+/* A ciphertext for a key: an honest one, or one whose error, message or bytes are not what wrapping gives. With
+ * MOVED_E0 and MOVED_E1 one bit of that half of H(m) stands elsewhere. */
+enum opening { HONEST, STRAY, OTHER_ERROR, LIGHT_ERROR, C0_BIT, C1_BIT, NO_SYNDROME, ANY_BYTES, MOVED_E0, MOVED_E1,
+               OPENINGS };
+void opening_case(struct test_case *c, struct source *g, const struct level *v, const struct key *key,
+                  enum opening how, uint32_t replaced);
 
 /* An ordinary good case of an entry that takes a level. */
 void ordinary_case(struct test_case *c, struct source *g, uint32_t entry, const struct level *v);

@@ -80,7 +80,8 @@ static void random_wrap(struct test_case *c, struct source *g, const struct leve
 static void random_open(struct test_case *c, struct source *g, const struct level *v)
 {
     enum opening how = (enum opening)source_below(g, OPENINGS);
-    opening_case(c, g, v, how, source_below(g, 3));
+    struct key key = (source_below(g, 2) == 0 ? window_key : random_key)(g, v);
+    opening_case(c, g, v, &key, how, source_below(g, 3));
 }
 
 static void damage_key(struct test_case *c, struct source *g)

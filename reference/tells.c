@@ -30,7 +30,8 @@ static void usage(void)
 {
     fputs("usage: tells CASES                              a table: the first case that tells each wrong reading\n"
           "       tells --search LEVEL KIND WEIGHT FROM TO  the wrong readings that each numbered decoder case tells\n"
-          "KIND: 0 random error, 1 and a stray bit, 2 under a key of close positions, 3 at the key's own positions.\n"
+          "KIND: 0 random error, 1 and a stray bit, 2 under a key of close positions, 3 at the key's own positions,\n"
+          "4 under a key of a window.\n"
           "The first fails unless each reading is told at both levels, or by a case that has no good level.\n",
           stdout);
 }
@@ -117,6 +118,11 @@ static uint32_t number(const char *text)
     return (uint32_t)number_of(program, text, UINT32_MAX);
 }
 
+static bool of_decoder(int reading)
+{
+    return (reading >= W_MINUS_P && reading <= W_WEIGHT_T) || reading == W_SLOPE || reading == W_LEAST;
+}
+
 static void search(char **argv)
 {
     static struct line line;
@@ -128,8 +134,8 @@ static void search(char **argv)
         case_decode_numbered(&line.test, v, (enum error_kind)kind, weight, n);
         run_right(&line);
         printf("%lu: answer %lu, told:", (unsigned long)n, (unsigned long)line.right.answer);
-        for (int reading = W_MINUS_P; reading <= W_WEIGHT_T; reading++)
-            if (is_told(&line, reading))
+        for (int reading = 1; reading < W_COUNT; reading++)
+            if (of_decoder(reading) && is_told(&line, reading))
                 printf(" %d", reading);
         printf("\n");
     }

@@ -84,7 +84,11 @@
     X(EXACT_RECORD, "record: further bytes are refused with 7") \
     X(THING_7, "record: thing 7 is known, with any length") \
     X(ANY_LEVEL, "record: any level for things of 32 bytes") \
-    X(SLIDE_SIZES, "record: polynomial lengths rounded down")
+    X(SLIDE_SIZES, "record: polynomial lengths rounded down") \
+    X(OPEN_E0, "opening compares e0 alone") \
+    X(OPEN_E1, "opening compares e1 alone") \
+    X(SLOPE, "threshold: a slope one higher") \
+    X(LEAST, "threshold: a lower bound one lower")
 
 #define WRONG_NAME(name, text) W_##name,
 enum { W_NONE, WRONG_READINGS(WRONG_NAME) W_COUNT };

@@ -10,6 +10,7 @@ typedef struct FILE FILE;
 
 extern FILE *stdin, *stdout, *stderr;
 
+int fflush(FILE *file);
 int getc(FILE *file);
 int putc(int byte, FILE *file);
 int fputs(const char *text, FILE *file);

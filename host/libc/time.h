@@ -2,7 +2,7 @@
 #ifndef HOST_TIME_H
 #define HOST_TIME_H
 
-#define CLOCK_MONOTONIC 1
+#define CLOCK_PROCESS_CPUTIME_ID 2
 
 struct timespec {
     long tv_sec, tv_nsec;
