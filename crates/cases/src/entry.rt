@@ -4,7 +4,8 @@ use crate::buffer::blank;
 use crate::buffer::mark;
 use crate::buffer::read;
 use crate::buffer::size;
-use exchange::record::Line;
+use exchange::record::Reading;
+use exchange::record::Thing;
 use libc::STDOUT_FILENO;
 
 // How many inputs and outputs an entry has; no inputs where the number is no entry's.
@@ -52,26 +53,35 @@ fn print_out(out: &[u8]) {
     lines::print_hex(out);
 }
 
-fn print_values(line: Line) {
-    print_field(line.answer as u64);
-    print_field(line.level as u64);
-    print_field(line.thing as u64);
-    print_field(line.body as u64);
+// Document 01's number of a thing.
+fn number_of(thing: Thing) -> u64 {
+    match thing {
+        Thing::Seed => 1,
+        Thing::PublicKey => 2,
+        Thing::PrivateKey => 3,
+        Thing::Ciphertext => 4,
+        Thing::Message => 5,
+        Thing::SessionKey => 6,
+    }
 }
 
-// `line_at` lists from a place where there is a byte: no byte at all is a record that is cut.
+fn print_values(answer: u64, level: u64, thing: u64, body: u64) {
+    print_field(answer);
+    print_field(level);
+    print_field(thing);
+    print_field(body);
+}
+
 fn print_record(bytes: &[u8]) {
-    if bytes.len() == 0 {
-        print_values(Line {
-            answer: 7,
-            level: 0,
-            thing: 0,
-            body: 0,
-            next: 0,
-        });
-        return;
+    match exchange::read_record(bytes) {
+        Reading::Good(found) => {
+            let thing = found.thing;
+            print_values(0, found.level as u64, number_of(thing), found.body as u64);
+        }
+        Reading::Short => print_values(7, 0, 0, 0),
+        Reading::UnknownKind => print_values(8, 0, 0, 0),
+        Reading::WrongLength => print_values(9, 0, 0, 0),
     }
-    print_values(exchange::record::line_at(bytes, 0));
 }
 
 // The answer of an entry with outputs, and what they hold.
