@@ -71,6 +71,7 @@ static void make(struct controller *kart)
     uint8_t seed[BIKE_SEED_BYTES];
     random_bytes(seed, sizeof seed);
     uint32_t answer = bike_make_key(LEVEL, seed, sizeof seed, kart->public_key, PUBLIC, kart->private_key, PRIVATE);
+    bike_wipe_stack();
     say_answer(kart->name, "makes its key pair", answer);
     must(answer == BIKE_DONE, "no key");
 }
@@ -81,6 +82,7 @@ static uint32_t wrap(struct app *app, const uint8_t *scanned, const char *what)
     random_bytes(message, sizeof message);
     uint32_t answer = bike_wrap(LEVEL, scanned, PUBLIC, message, sizeof message, app->ciphertext, CIPHERTEXT,
                                 app->session_key, SESSION);
+    bike_wipe_stack();
     say_answer("phone", what, answer);
     say_key("phone", app->session_key);
     return answer;
@@ -90,6 +92,7 @@ static void open(struct controller *kart, const struct app *app, const char *wha
 {
     uint32_t answer = bike_open(LEVEL, kart->private_key, PRIVATE, app->ciphertext, CIPHERTEXT,
                                 kart->session_key, SESSION);
+    bike_wipe_stack();
     say_answer(kart->name, what, answer);
     say_key(kart->name, kart->session_key);
     must(answer == BIKE_DONE, "not opened");

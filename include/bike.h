@@ -9,9 +9,11 @@
  * applies is given; after BIKE_NO_LEVEL nothing else is looked at.
  *
  * Secrets. Seeds and messages come from the caller's random source: a seed for each key pair, a message for each wrapping, none
- * of them twice. Seed, private key, message and session key are secret; public key and ciphertext are not.
+ * of them twice. Seed, private key, message and session key are secret; public key and ciphertext are not. docs/SECURITY.md says what
+ * is kept from whom, and what an app does after each answer.
  *
- * Stack. A call takes less than 512 kB at either level (host/run bench measures it). */
+ * Stack. A call takes less than BIKE_STACK_BYTES at either level (host/run bench measures it), and leaves copies of its secrets
+ * there: bike_wipe_stack overwrites them. */
 #ifndef BIKE_H
 #define BIKE_H
 
@@ -26,6 +28,7 @@ enum {
     BIKE_SEED_BYTES = 64,
     BIKE_MESSAGE_BYTES = 32,
     BIKE_SESSION_KEY_BYTES = 32,
+    BIKE_STACK_BYTES = 512 * 1024,
 
     BIKE_LEVEL_1 = 1,
     BIKE_LEVEL_1_PUBLIC_KEY_BYTES = 1541,
@@ -63,6 +66,10 @@ uint32_t bike_wrap(uint32_t level, const uint8_t *public_key, size_t public_key_
 uint32_t bike_open(uint32_t level, const uint8_t *private_key, size_t private_key_bytes,
                    const uint8_t *ciphertext, size_t ciphertext_bytes,
                    uint8_t *session_key, size_t session_key_bytes);
+
+/* Overwrites as much of the stack below the caller as a call can have used. To be called by the same function of the same thread,
+ * after the call. It is not in the archive: compile bike_wipe.c, which lies beside this header, into the program. */
+void bike_wipe_stack(void);
 
 #ifdef __cplusplus
 }
