@@ -1,5 +1,5 @@
-/* Processor time of the library and of the second program in one run, and the library's stack: key making, wrapping and opening at
- * each level. */
+/* Processor time of the library and of the second program in one run, and the library's stack: key making, wrapping and
+ * opening at each level. */
 #include <pthread.h>
 #include <stdio.h>
 #include <stdlib.h>
@@ -135,8 +135,8 @@ static void bench(const struct level *v, unsigned long milliseconds)
     for (size_t i = 0; i < sizeof works / sizeof works[0]; i++) {
         struct job ours = {works[i].call, &library, v}, theirs = {works[i].call, &reference, v};
         struct times a = times_of(ours, milliseconds), b = times_of(theirs, milliseconds);
-        printf("  %-10s %8.3f %8.3f   %8.3f %8.3f %20.2f %13lu kB\n", works[i].name, a.median, a.least, b.median, b.least,
-               b.median / a.median, (unsigned long)(stack_of(ours) + 999) / 1000);
+        printf("  %-10s %8.3f %8.3f   %8.3f %8.3f %20.2f %13lu kB\n", works[i].name, a.median, a.least, b.median,
+               b.least, b.median / a.median, (unsigned long)(stack_of(ours) + 999) / 1000);
     }
 }
 

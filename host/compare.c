@@ -127,7 +127,7 @@ int main(int argc, char **argv)
     char fresh[17];
     struct counts counts = {0};
     if (argc < 2 || argc > 4)
-        refuse(program, "wanted: COUNT, the number of calls, perhaps the SEED of an earlier run, and a wrong reading", "");
+        refuse(program, "wanted: COUNT, the number of calls, perhaps an earlier run's SEED, and a wrong reading", "");
     unsigned long count = number_of(program, argv[1], MOST);
     int reading = argc == 4 ? (int)number_of(program, argv[3], W_COUNT - 1) : W_NONE;
     fresh_seed(fresh, sizeof fresh);

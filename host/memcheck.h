@@ -1,5 +1,5 @@
-/* Memcheck's two requests that a program makes of it, as valgrind's manual and its memcheck.h have them; without valgrind they do
- * nothing. What is marked as secret counts as uninitialised, and so does all that is worked out from it. */
+/* Two requests to valgrind's memcheck, as its manual and its own header have them; without valgrind they do nothing. What
+ * is marked as secret counts as uninitialised, and so does all that is worked out from it. */
 #ifndef HOST_MEMCHECK_H
 #define HOST_MEMCHECK_H
 
@@ -8,7 +8,7 @@
 
 enum { MARK_UNDEFINED = 'M' << 24 | 'C' << 16 | 1, MARK_DEFINED = 'M' << 24 | 'C' << 16 | 2 };
 
-/* Valgrind sees the five instructions, which leave every register as it is, and reads the request where rax points. */
+/* Valgrind sees the five instructions, which leave all registers as they are, and reads the request where rax points. */
 static inline void request(uint64_t code, const void *bytes, size_t n)
 {
     const uint64_t words[6] = {code, (uint64_t)bytes, n};

@@ -1,4 +1,5 @@
-/* What host/secrets runs under valgrind: the three doors with their secrets marked, a planted leak, or one opening to be counted. */
+/* What host/secrets runs under valgrind: the three doors with their secrets marked, a planted leak, or one opening that
+ * is to be counted. */
 #include <stdbool.h>
 #include <stdio.h>
 #include <stdlib.h>

@@ -1,5 +1,5 @@
-/* What stays on the stack after a call, and that bike_wipe_stack leaves nothing of it: each call runs in a thread whose stack is ours
- * to look at. */
+/* What stays on the stack after a call, and that bike_wipe_stack leaves nothing of it: each call runs in a thread whose
+ * stack is ours to look at. */
 #include <pthread.h>
 #include <stdio.h>
 #include <stdlib.h>
@@ -12,7 +12,8 @@ enum { THREAD_BYTES = 1 << 21, PIECE = 32 };
 
 static _Alignas(4096) uint8_t stack[THREAD_BYTES];
 
-/* The buffers of an exchange at Level 1. A piece of 32 bytes stands for each secret; of the private key, its first positions. */
+/* The buffers of an exchange at Level 1. A piece of 32 bytes stands for each secret; of the private key, its first
+ * positions. */
 static uint8_t seed[BIKE_SEED_BYTES], message[BIKE_MESSAGE_BYTES], session_key[BIKE_SESSION_KEY_BYTES];
 static uint8_t public_key[BIKE_LEVEL_1_PUBLIC_KEY_BYTES], private_key[BIKE_LEVEL_1_PRIVATE_KEY_BYTES];
 static uint8_t ciphertext[BIKE_LEVEL_1_CIPHERTEXT_BYTES];
@@ -25,13 +26,14 @@ static _Noreturn void fail(const char *what)
 
 static uint32_t make_key(void)
 {
-    return bike_make_key(BIKE_LEVEL_1, seed, sizeof seed, public_key, sizeof public_key, private_key, sizeof private_key);
+    return bike_make_key(BIKE_LEVEL_1, seed, sizeof seed, public_key, sizeof public_key,
+                         private_key, sizeof private_key);
 }
 
 static uint32_t wrap(void)
 {
-    return bike_wrap(BIKE_LEVEL_1, public_key, sizeof public_key, message, sizeof message, ciphertext, sizeof ciphertext,
-                     session_key, sizeof session_key);
+    return bike_wrap(BIKE_LEVEL_1, public_key, sizeof public_key, message, sizeof message,
+                     ciphertext, sizeof ciphertext, session_key, sizeof session_key);
 }
 
 static uint32_t open(void)
@@ -86,11 +88,13 @@ static unsigned long left_by(void *(*start)(void *), const struct job *job)
 int main(void)
 {
     unsigned long before = 0, after = 0;
-    if (getrandom(seed, sizeof seed, 0) != (long)sizeof seed || getrandom(message, sizeof message, 0) != (long)sizeof message)
+    long got = getrandom(seed, sizeof seed, 0) + getrandom(message, sizeof message, 0);
+    if (got != (long)(sizeof seed + sizeof message))
         fail("no random bytes");
     for (size_t i = 0; i < sizeof jobs / sizeof jobs[0]; i++) {
         unsigned long plain = left_by(only_call, &jobs[i]), wiped = left_by(call_and_wipe, &jobs[i]);
-        printf("copies of secrets on the stack after %-10s  %lu; after bike_wipe_stack  %lu\n", jobs[i].name, plain, wiped);
+        printf("copies of secrets on the stack after %-10s  %lu; after bike_wipe_stack  %lu\n", jobs[i].name, plain,
+               wiped);
         before += plain;
         after += wiped;
     }

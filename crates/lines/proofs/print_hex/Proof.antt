@@ -1,4 +1,4 @@
--- `lines::print_hex` is safe and ends: a turn lays out at least one byte. The measure is what is left of the bytes. Assumes nothing.
+-- `lines::print_hex` is safe and ends: a turn lays out at least one byte, and the measure is what is left. Assumes nothing.
 use mathlib.Core.Path.{_≡_, sym}
 use Prim.Native.Nat.{_≤_, _<_, _-_}
 use native.Mathlib.Omega.{arith}
