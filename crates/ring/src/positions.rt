@@ -1,43 +1,48 @@
-// The exponents of a polynomial, in rising order.
+// The exponents of a polynomial, in rising order. Its weight gives the number of turns, so that what runs does not tell
+// where they lie.
+use crate::size::MOST_D;
 use crate::size::WORDS;
 ghost use mathlib.Core.Path.{_≡_};
-ghost use mathlib.Core.List.{map};
-ghost use Prim.Native.Nat.{ℕ, _+_, _≤_, _<_};
-ghost use lib.ListN.{length};
-ghost use lib.Seq.{sets};
-ghost use Rattle.hashing.specs.Lists.{bitAt, bits};
+ghost use Prim.Native.Nat.{_-_, _^_, _≤_, _<_};
+ghost use lib.Count.{trailingZeros};
+ghost use lib.ListN.{length, take};
+ghost use Rattle.hashing.specs.Lists.{bits};
 ghost use Rattle.ring.specs.Polynomials;
 ghost use Rattle.ring.specs.Polynomials.{InRing};
-ghost use Rattle.ring.specs.inner.Sizes.{wordBits};
+ghost use Rattle.ring.specs.inner.Sizes.{wordBits, mostD};
 
-// Those of one word, which starts at bit `base`, into `out` from `count` on.
-fn of_word(w: u64, base: usize, out: &mut [u16], count: usize) -> usize
-    requires { ⌜ (base < wordBits) × (count + length (Polynomials.rising 64 (bitAt w)) ≤ length (now out)) ⌝ }
-    ensures { λ n. ⌜ n ≡ count + length (Polynomials.rising 64 (bitAt w)) ⌝
-        ∗ ⌜ now (out .exit) ≡ sets (now (out .entry)) count (map (λ (e : ℕ). base + e) (Polynomials.rising 64 (bitAt w))) ⌝ }
+// Room for those of a half of a private key, and a place for what a turn writes that lists none.
+pub const LISTED: usize = MOST_D + 1;
+
+// A word without its lowest bit, which has `zeros` below it; 0 stays 0. By arithmetic, with no branch.
+fn without_lowest(w: u64, zeros: u64) -> u64
+    requires { ⌜ zeros ≡ trailingZeros 64 w ⌝ }
+    ensures { λ rest. ⌜ (w ≡ 0 → rest ≡ 0) × (0 < w → rest ≡ w - 2 ^ zeros) ⌝ }
 {
-    let mut rest = w;
-    let mut n = count;
-    while rest != 0 {
-        let e = u64::trailing_zeros(rest);
-        out[n] = (base + e as usize) as u16;
-        rest -= 1 << e;
-        n += 1;
-    }
-    n
+    w - ((1 - zeros / 64) << (zeros % 64))
 }
 
-// How many there are; they stand at the start of `out`.
-pub fn rising(r: usize, x: [u64; WORDS], out: &mut [u16]) -> usize
-    requires { ⌜ r < wordBits ⌝ ∗ ⌜ InRing r (bits 64 x) ⌝ ∗ ⌜ length (Polynomials.rising r (bits 64 x)) ≤ length (now out) ⌝ }
-    ensures { λ n. ⌜ n ≡ length (Polynomials.rising r (bits 64 x)) ⌝
-        ∗ ⌜ now (out .exit) ≡ sets (now (out .entry)) 0 (Polynomials.rising r (bits 64 x)) ⌝ }
+// The `count` exponents of x, at the start of the list. A turn takes the lowest bit off word i and lists it, or, where
+// none is left, goes on to the next word: it writes in any case, and what it writes without a bit is overwritten.
+pub fn rising(r: usize, x: [u64; WORDS], count: usize) -> [u16; LISTED]
+    requires { ⌜ (r < wordBits) × (count ≤ mostD) ⌝ ∗ ⌜ InRing r (bits 64 x) ⌝
+        ∗ ⌜ length (Polynomials.rising r (bits 64 x)) ≡ count ⌝ }
+    ensures { λ out. ⌜ take count out ≡ Polynomials.rising r (bits 64 x) ⌝ }
 {
-    let mut n = 0;
+    let mut out = [0u16; LISTED];
+    let mut left = x;
     let mut i = 0;
-    while i <= r / 64 {
-        n = of_word(x[i], 64 * i, out, n);
-        i += 1;
+    let mut n = 0;
+    let mut turn = 0;
+    while turn < r / 64 + count {
+        let w = left[i];
+        let zeros = u64::trailing_zeros(w);
+        let none = (zeros / 64) as usize;
+        out[n] = (64 * i + zeros as usize) as u16;
+        left[i] = without_lowest(w, zeros as u64);
+        i += none;
+        n += 1 - none;
+        turn += 1;
     }
-    n
+    out
 }

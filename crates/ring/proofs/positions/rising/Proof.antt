@@ -1,57 +1,60 @@
--- `rising` goes word by word: before turn i the exponents below 64 i are written.
-use mathlib.Core.Path.{_≡_, refl, sym, ap, _∙_}
-use mathlib.Core.List.{map}
-use Prim.Native.Nat.{ℕ, _+_, _-_, _*_, _/_, _≤_}
-use native.Mathlib.Nat.{zero-add}
+-- `rising`: before each turn the words gone through and the exponents listed are as many as the turns, and both have an end.
+use mathlib.Core.Path.{_≡_, refl, _∙_}
+use Prim.Native.Nat.{ℕ, _+_, _-_, _/_, _^_, _≤_, _<_}
 use native.Mathlib.Omega.{arith}
-use lib.ListN.{length, getD, length-append, length-map}
-use lib.Seq.{sets}
-use Rattle.hashing.specs.Lists.{bitAt, bits}
-use Rattle.ring.specs.Polynomials.{rising}
-use Rattle.ring.proofs.positions.Laws.{rising-words, rising-all, rising-room, sets-append}
+use borrow.Author.Needs.{needs}
+use lib.Count.{trailingZeros}
+use lib.ListN.{length, getD, length-set}
+use mir.Syntax.{w64}
+use mir.Val.{Fits}
+use Rattle.ring.specs.inner.Sizes.{words, mostD}
+use Rattle.ring.proofs.positions.Laws.{Listing, listing-start, listing-turn, listing-end, turn-fits}
 use Rattle.ring.proofs.positions.rising.Statement.{statement}
 use Rattle.ring.proofs.positions.rising.Tie as tie
 
 abbrev Inv-loop : tie.InvT-loop
-Inv-loop r out₀ x n₀ i₀ out n i =
-    (i ≤ r / 64 + 1) × (length out ≡ length out₀)
-    × (n ≡ length (rising (64 * i) (bits 64 x))) × (out ≡ sets out₀ 0 (rising (64 * i) (bits 64 x)))
+Inv-loop r count out₀ x i₀ n₀ turn₀ out left i n turn =
+    (turn ≡ i + n) × (i ≤ r / 64) × (n ≤ count) × (length out ≡ mostD + 1) × (length left ≡ words) × Listing x out left i n
 
 abbrev μ-loop : tie.MeasureT-loop
-μ-loop r out₀ x n₀ i₀ out n i = r / 64 + 1 - i
+μ-loop r count out₀ x i₀ n₀ turn₀ out left i n turn = r / 64 + count - turn
 
-loop-holds : tie.Need-loop-holds Inv-loop μ-loop
-unfolding rising
-loop-holds c = (omega arith, refl, refl, refl)
+small : (c : tie.Start Inv-loop μ-loop) (j : ℕ) → getD (c .args .x) j 0 < 2 ^ 64
+small c j = let f : Fits w64 (getD (c .args .x) j 0) = search needs in f .fits
 
-of-word-requires : tie.Need-of-word-requires Inv-loop μ-loop
-of-word-requires c κs =
-    let was = c .before .before .loop in
-    let start = c .before .before .before .before in
-    let room = rising-room (start .args .r) (start .args .t2) (start .pre .1 .0) (was .i) (omega arith) in
-    omega arith
+-- what a turn finds: a bit that there is room for, or a word to go on to
+found : (c : tie.In-loop Inv-loop μ-loop) →
+    let was = c .before .loop in
+    let given = c .before .before .args in
+    let t = trailingZeros 64 (getD (was .left) (was .i) 0) in
+    (t ≤ 64) × (was .i + t / 64 ≤ given .r / 64) × (was .n + (1 - t / 64) ≤ given .count)
+found c =
+    let was = c .before .loop in
+    let start = c .before .before in
+    rw (← start .pre .1 .1)
+    (turn-fits (start .args .x) (small start) (was .inv .5) (start .args .r) (start .pre .1 .0) (omega arith) _ refl (omega arith) (omega arith))
 
 loop-again : tie.Need-loop-again Inv-loop μ-loop
 loop-again c =
-    let was = c .before .before .before .before .before .loop in
-    let start = c .before .before .before .before .before .before .before in
-    let x = start .args .t2 in
-    let before = rising (64 * was .i) (bits 64 x) in
-    let word = map (λ (e : ℕ). 64 * was .i + e) (rising 64 (bitAt (getD x (was .i) 0))) in
-    let call = c .before .before .of-word in (
+    let was = c .before .before .loop in
+    let start = c .before .before .before in
+    let turn = found (c .before) in
+    let rest = c .without-lowest .ensures in (
       omega arith,
-      call .kept .1 .1 .0 ∙ was .inv .1,
-      call .ensures .0 ∙ rw (rising-words x (was .i), was .inv .2, length-append before word, length-map (rising 64 (bitAt (getD x (was .i) 0))) (λ (e : ℕ). 64 * was .i + e)),
-      call .ensures .1 ∙ rw (rising-words x (was .i), was .inv .2, was .inv .3) (ap (λ (n : ℕ). sets (sets (start .args .out .now) 0 before) n word) (sym (zero-add (length before))) ∙ sets-append before word (start .args .out .now) 0),
+      omega arith,
+      omega arith,
+      length-set (was .out) (was .n) _ ∙ was .inv .3,
+      length-set (was .left) (was .i) _ ∙ was .inv .4,
+      listing-turn (start .args .x) (small start) (was .inv .5) _ _ refl (rest .0) (rest .1) (omega arith) (omega arith),
     )
 
 returns : tie.Need-returns Inv-loop μ-loop
 returns c =
     let was = c .before .loop in
-    let start = c .before .before .before in
-    let all : was .i ≡ start .args .r / 64 + 1 = omega arith in
-    let whole = rising-all (start .args .r) (start .args .t2) (start .pre .1 .0) in
-    (rw (all, whole) at (was .inv .2), rw (all, whole) at (was .inv .3))
+    let start = c .before .before in
+    let all : was .n ≡ start .args .count = omega arith in
+    rw (← all)
+    (listing-end (start .args .x) (small start) (was .inv .5) (start .args .r) (start .pre .1 .0) (omega arith) (omega (arith, start .pre .1 .1)) (omega arith))
 
 pub rising-spec : {M : Type 1} → statement M
 rising-spec =
@@ -59,13 +62,25 @@ rising-spec =
     (tie.spec
     Inv-loop
     μ-loop
-    loop-holds
+    (λ c. (omega arith, omega arith, omega arith, refl, omega arith, listing-start (c .args .x) (small c) _))
     (λ c. omega arith)
     (λ c. omega arith)
     (λ c. omega arith)
-    of-word-requires
+    (λ c. let turn = found c in omega arith)
+    (λ c. omega arith)
+    (λ c. let turn = found c in omega arith)
+    (λ c. let turn = found c in omega arith)
+    (λ c. let turn = found c in omega arith)
+    (λ c. omega arith)
+    (λ c. omega arith)
+    (λ c. let turn = found c in omega arith)
+    (λ c κs. search needs)
+    (λ c. omega arith)
+    (λ c. omega arith)
+    (λ c. let turn = found (c .before) in omega arith)
+    (λ c. let turn = found (c .before) in omega arith)
+    (λ c. let turn = found (c .before) in omega arith)
     (λ c. omega arith)
     (λ c. omega arith)
     loop-again
-    (λ c. omega arith)
     returns)
