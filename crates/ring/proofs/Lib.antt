@@ -12,4 +12,5 @@ pub mod Powers
 pub mod Promises
 pub mod Ring
 pub mod Shifts
+pub mod Upper
 pub mod Weights

@@ -1,19 +1,24 @@
-// The product of a dense polynomial by a sparse one: x X^p is x turned by p places. x is held twice in a row, so that each turned x is
-// a window of that, and the windows are added word by word.
+// The product of a dense polynomial by a sparse one: x X^p is x turned by p places. x is held twice in a row, so that
+// each turned x is a window of that, and the windows are added word by word. Behind the two an empty window adds nothing.
 use crate::frame::cut;
 use crate::frame::zeros;
+use crate::size::MOST_T;
 use crate::size::WORDS;
 ghost use mathlib.Core.Path.{_≡_};
 ghost use mathlib.Core.Bool.{false};
 ghost use mathlib.Core.List.{[], _∷_};
-ghost use Prim.Native.Nat.{ℕ, _+_, _*_, _/_, _%_, _≤_, _<_};
+ghost use Prim.Native.Nat.{ℕ, _+_, _-_, _*_, _/_, _%_, _≤_, _<_};
 ghost use lib.ListN.{length, getD, take};
 ghost use Rattle.hashing.specs.Lists.{bitAt, bits};
-ghost use Rattle.ring.specs.Polynomials.{Poly, InRing, flip, terms, mul};
-ghost use Rattle.ring.specs.inner.Sizes.{words, wordBits, twiceWords};
+ghost use Rattle.ring.specs.Polynomials.{Poly, InRing, flip, parity, terms, mul};
+ghost use Rattle.ring.specs.inner.Sizes.{words, wordBits, mostT, emptyWindow, windowWords};
+ghost use Rattle.ring.specs.inner.Upper.{upper};
+ghost use Rattle.ring.specs.inner.Windows.{Start, window, UpperStart};
 
-// Room for a polynomial twice, and a word that the last window reads.
-const TWICE: usize = 2 * WORDS + 1;
+// Where the empty window starts, and room for all: a polynomial twice, and one word more than a polynomial has.
+const EMPTY: usize = 64 * 2 * WORDS;
+
+const WINDOWED: usize = 3 * WORDS + 1;
 
 // The 64 bits from bit s on of two words in a row. (No shift is by 64, s = 0 included.)
 fn join(low: u64, high: u64, s: usize) -> u64
@@ -23,14 +28,14 @@ fn join(low: u64, high: u64, s: usize) -> u64
     (low >> s) | ((high << 1) << (63 - s))
 }
 
-fn blank() -> [u64; TWICE]
+fn blank() -> [u64; WINDOWED]
     ensures { λ d. ⌜ bits 64 d ≡ (λ k. false) ⌝ }
 {
-    [0u64; TWICE]
+    [0u64; WINDOWED]
 }
 
 // The n words of x.
-fn copied(x: [u64; WORDS], n: usize) -> [u64; TWICE]
+fn copied(x: [u64; WORDS], n: usize) -> [u64; WINDOWED]
     requires { ⌜ (n ≤ words) × InRing (64 * n) (bits 64 x) ⌝ }
     ensures { λ d. ⌜ bits 64 d ≡ bits 64 x ⌝ }
 {
@@ -43,11 +48,12 @@ fn copied(x: [u64; WORDS], n: usize) -> [u64; TWICE]
     d
 }
 
-// Each word after that of r is what stands r places before it.
+// Each word after that of r is what stands r places before it, as far as the second copy goes.
 fn extend(d: &mut [u64], r: usize)
-    requires { ⌜ (64 ≤ r) × (r < wordBits) × (length (now d) ≡ twiceWords) ⌝ }
+    requires { ⌜ (64 ≤ r) × (r < wordBits) × (length (now d) ≡ windowWords) ⌝ }
     ensures { λ _. ⌜ ((a : Poly) → ((k : ℕ) → k < 64 * (r / 64 + 1) → bits 64 (now (d .entry)) k ≡ a (k % r))
-        → (k : ℕ) → k < 64 * (2 * (r / 64) + 2) → bits 64 (now (d .exit)) k ≡ a (k % r)) ⌝ }
+        → (k : ℕ) → k < 64 * (2 * (r / 64) + 2) → bits 64 (now (d .exit)) k ≡ a (k % r)) ⌝
+        ∗ ⌜ ((k : ℕ) → emptyWindow ≤ k → bits 64 (now (d .exit)) k ≡ bits 64 (now (d .entry)) k) ⌝ }
 {
     let mut j = r / 64 + 1;
     while j < 2 * (r / 64) + 2 {
@@ -57,9 +63,9 @@ fn extend(d: &mut [u64], r: usize)
     }
 }
 
-fn twice(r: usize, x: [u64; WORDS]) -> [u64; TWICE]
+fn twice(r: usize, x: [u64; WORDS]) -> [u64; WINDOWED]
     requires { ⌜ (64 ≤ r) × (r < wordBits) ⌝ ∗ ⌜ InRing r (bits 64 x) ⌝ }
-    ensures { λ d. ⌜ ((k : ℕ) → k < r + r → bits 64 d k ≡ bits 64 x (k % r)) ⌝ }
+    ensures { λ d. ⌜ ((k : ℕ) → k < r + r → bits 64 d k ≡ bits 64 x (k % r)) ⌝ ∗ ⌜ InRing emptyWindow (bits 64 d) ⌝ }
 {
     let mut d = copied(x, r / 64 + 1);
     d[r / 64] = d[r / 64] ^ (d[0] << (r % 64));
@@ -69,7 +75,7 @@ fn twice(r: usize, x: [u64; WORDS]) -> [u64; TWICE]
 
 // Adds to the n lowest words of y the window of d that starts at bit `from`.
 fn add_window(y: &mut [u64], d: &[u64], from: usize, n: usize)
-    requires { ⌜ (from < wordBits) × (n ≤ words) × (n ≤ length (now y)) × (from / 64 + n < length (now d)) ⌝ }
+    requires { ⌜ (n ≤ length (now y)) × (from / 64 + n < length (now d)) × (length (now d) ≡ windowWords) ⌝ }
     ensures { λ _. ⌜ ((k : ℕ) → k < 64 * n → bits 64 (now (y .exit)) k ≡ flip (bits 64 (now (y .entry)) k) (bits 64 (now (d .entry)) (from + k))) ⌝
         ∗ ⌜ ((k : ℕ) → 64 * n ≤ k → bits 64 (now (y .exit)) k ≡ bits 64 (now (y .entry)) k) ⌝ }
 {
@@ -82,17 +88,77 @@ fn add_window(y: &mut [u64], d: &[u64], from: usize, n: usize)
     }
 }
 
-pub fn sparse(r: usize, positions: &[u16], count: usize, x: [u64; WORDS]) -> [u64; WORDS]
-    requires { ⌜ (64 ≤ r) × (r < wordBits) × (count ≤ length (now positions)) ⌝ ∗ ⌜ InRing r (bits 64 x) ⌝
-        ∗ ⌜ ((i : ℕ) → i < count → getD (now positions) i 0 < r) ⌝ }
-    ensures { λ y. ⌜ bits 64 y ≡ mul r (terms r (take count (now (positions .entry)))) (bits 64 x) ⌝ }
+// The sum of the windows that start at the first `count` of `from`.
+fn windows(r: usize, x: [u64; WORDS], from: &[usize], count: usize) -> [u64; WORDS]
+    requires { ⌜ (64 ≤ r) × (r < wordBits) × (count ≤ length (now from)) ⌝ ∗ ⌜ InRing r (bits 64 x) ⌝
+        ∗ ⌜ ((i : ℕ) → i < count → Start r (getD (now from) i 0)) ⌝ }
+    ensures { λ y. ⌜ InRing r (bits 64 y) ⌝
+        ∗ ⌜ ((k : ℕ) → k < r → bits 64 y k ≡ parity count (λ i. window r (bits 64 x) (getD (now (from .entry)) i 0) k)) ⌝ }
 {
     let d = twice(r, x);
     let mut y = zeros();
     let mut i = 0;
     while i < count {
-        add_window(&mut y, &d, r - positions[i] as usize, r / 64 + 1);
+        add_window(&mut y, &d, from[i], r / 64 + 1);
         i += 1;
     }
     cut(r, y)
+}
+
+// Where the windows of the positions start.
+fn starts(r: usize, positions: &[u16], count: usize) -> [usize; MOST_T]
+    requires { ⌜ (r < wordBits) × (count ≤ length (now positions)) × (count ≤ mostT) ⌝
+        ∗ ⌜ ((i : ℕ) → i < count → getD (now positions) i 0 < r) ⌝ }
+    ensures { λ from. ⌜ ((i : ℕ) → i < count → getD from i 0 ≡ r - getD (now (positions .entry)) i 0) ⌝ }
+{
+    let mut from = [0usize; MOST_T];
+    let mut i = 0;
+    while i < count {
+        from[i] = r - positions[i] as usize;
+        i += 1;
+    }
+    from
+}
+
+pub fn sparse(r: usize, positions: &[u16], count: usize, x: [u64; WORDS]) -> [u64; WORDS]
+    requires { ⌜ (64 ≤ r) × (r < wordBits) × (count ≤ length (now positions)) × (count ≤ mostT) ⌝ ∗ ⌜ InRing r (bits 64 x) ⌝
+        ∗ ⌜ ((i : ℕ) → i < count → getD (now positions) i 0 < r) ⌝ }
+    ensures { λ y. ⌜ bits 64 y ≡ mul r (terms r (take count (now (positions .entry)))) (bits 64 x) ⌝ }
+{
+    let from = starts(r, positions, count);
+    windows(r, x, &from, count)
+}
+
+// Where the window of a position starts: one from r on stands for the exponent p - r, another has the empty window.
+// By arithmetic, with no branch.
+fn upper_start(r: usize, p: usize) -> usize
+    requires { ⌜ (r < wordBits) × (p < r + r) ⌝ }
+    ensures { λ from. ⌜ UpperStart r p from ⌝ }
+{
+    let up = (r <= p) as usize;
+    EMPTY - up * (EMPTY + p - 2 * r)
+}
+
+fn upper_starts(r: usize, positions: &[u32], count: usize) -> [usize; MOST_T]
+    requires { ⌜ (r < wordBits) × (count ≤ length (now positions)) × (count ≤ mostT) ⌝
+        ∗ ⌜ ((i : ℕ) → i < count → getD (now positions) i 0 < r + r) ⌝ }
+    ensures { λ from. ⌜ ((i : ℕ) → i < count → UpperStart r (getD (now (positions .entry)) i 0) (getD from i 0)) ⌝ }
+{
+    let mut from = [0usize; MOST_T];
+    let mut i = 0;
+    while i < count {
+        from[i] = upper_start(r, positions[i] as usize);
+        i += 1;
+    }
+    from
+}
+
+// The product by the upper half of positions below 2r, in the same work however many of them lie there.
+pub fn sparse_upper(r: usize, positions: &[u32], count: usize, x: [u64; WORDS]) -> [u64; WORDS]
+    requires { ⌜ (64 ≤ r) × (r < wordBits) × (count ≤ length (now positions)) × (count ≤ mostT) ⌝ ∗ ⌜ InRing r (bits 64 x) ⌝
+        ∗ ⌜ ((i : ℕ) → i < count → getD (now positions) i 0 < r + r) ⌝ }
+    ensures { λ y. ⌜ bits 64 y ≡ mul r (terms r (upper r (take count (now (positions .entry))))) (bits 64 x) ⌝ }
+{
+    let from = upper_starts(r, positions, count);
+    windows(r, x, &from, count)
 }

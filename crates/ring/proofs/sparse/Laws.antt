@@ -1,22 +1,31 @@
--- What the sparse product rests on: windows of bits, a polynomial held twice in a row, and a product term by term. Assumes nothing.
-use mathlib.Core.Path.{_≡_, sym, ap, ap₂, fun-ext, _∙_}
-use mathlib.Core.Bool.{Bool, false, _||_, or-false}
-use mathlib.Core.List.{List, [], _∷_, _++_}
-use Prim.Native.Nat.{ℕ, _+_, _-_, _*_, _/_, _%_, _^_, _≤_, _<_}
-use native.Mathlib.Nat.{mod-eq-of-lt, mod-eq-sub-mod, mul-comm, mul-assoc}
+-- The sparse product: windows of a polynomial held twice in a row, and a product term by term. Assumes nothing.
+use mathlib.Core.Path.{_≡_, refl, sym, ap, ap₂, fun-ext, _∙_}
+use mathlib.Core.Bool.{Bool, true, false, _||_, or-false}
+use mathlib.Core.Logic.{inl, inr}
+use mathlib.Core.List.{List, [], _∷_, _++_, append-nil}
+use Prim.Native.Nat.{ℕ, zero, suc, _+_, _-_, _*_, _/_, _%_, _^_, _≤_, _<_}
+use native.Mathlib.Nat.{le-refl, mod-eq-of-lt, mod-eq-sub-mod, mul-comm, mul-assoc}
 use native.Mathlib.Decide.{decLt, ℕ-discrete}
 use native.Mathlib.Numerals.{add-one}
 use native.Mathlib.Omega.{arith}
+use borrow.Author.Count.{below-more}
+use borrow.Author.Tests.{leb-true, leb-false, le-leb, lt-leb}
+use mir.Val.{boolByte}
 use lib.Bits.{bitOr, bitXor}
+use lib.Dec.{leb}
 use lib.ListN.{length, getD, set, take}
 use lib.Pow.{pow-add}
-use lib.Seq.{take-suc}
+use lib.Seq.{getD-set-same, getD-set-other, take-suc}
 use Rattle.hashing.specs.Lists.{bitAt, bits}
 use Rattle.hashing.proofs.Words.{bit-or, bit-mod, bit-shl, bit-shl-below, bit-shr, bits-at, bit-above}
-use Rattle.ring.specs.Polynomials.{Poly, InRing, flip, over, power, add, terms, mul}
+use Rattle.ring.specs.Polynomials.{Poly, InRing, flip, parity, over, power, add, terms, mul}
+use Rattle.ring.specs.inner.Sizes.{wordBits, emptyWindow}
+use Rattle.ring.specs.inner.Upper.{upper}
+use Rattle.ring.specs.inner.Windows.{Start, window, UpperStart}
 use Rattle.ring.proofs.Parity.{flip-assoc, flip-false, parity-false}
 use Rattle.ring.proofs.Powers.{mul-mod-mod}
 use Rattle.ring.proofs.Ring
+use Rattle.ring.proofs.Upper.{upper-snoc, upper-low, upper-high}
 use Rattle.ring.proofs.Packed.{bit-flip, bits-set-same, bits-set-other}
 
 -- 64 bits of two words in a row
@@ -60,21 +69,106 @@ terms-snoc r [] p = fun-ext (λ k. flip-false (power r p k))
 terms-snoc r (q ∷ rest) p =
     fun-ext (λ k. ap (λ (t : Poly). flip (power r q k) (t k)) (terms-snoc r rest p) ∙ sym (flip-assoc (power r q k) (terms r rest k) (power r p k)))
 
-pub term-none : (r : ℕ) (x : Poly) (k : ℕ) → mul r (terms r []) x k ≡ false
+term-none : (r : ℕ) (x : Poly) (k : ℕ) → mul r (terms r []) x k ≡ false
 unfolding mul over terms
 term-none r x k = parity-false r
 
+-- a window that starts in the first of the two, and the empty one
+window-at : (r : ℕ) (x : Poly) (from k : ℕ) → from ≤ r → window r x from k ≡ x ((from + k) % r)
+unfolding window
+window-at r x from k low = rw (le-leb from r low)
+
+window-empty : (r : ℕ) (x : Poly) (k : ℕ) → r < wordBits → window r x emptyWindow k ≡ false
+unfolding window
+window-empty r x k small = rw (lt-leb emptyWindow r (omega arith))
+
+-- what stands in d shows them
+pub window-of : (r : ℕ) (x d : Poly) (from k : ℕ) → r < wordBits → Start r from → k < r
+    → ((j : ℕ) → j < r + r → d j ≡ x (j % r)) → InRing emptyWindow d → d (from + k) ≡ window r x from k
+window-of r x d from k small (inl low) below held empty = held (from + k) (omega arith) ∙ sym (window-at r x from k low)
+window-of r x d from k small (inr none) below held empty =
+    rw none (empty (emptyWindow + k) (omega arith) ∙ sym (window-empty r x k small))
+
+-- windows that are added one by one: the list of exponents grows with them, or stays as it is
+windows-sum : (r : ℕ) (x : Poly) (k n : ℕ) (window : ℕ → Bool) (list : ℕ → List ℕ) → list 0 ≡ []
+    → ((i : ℕ) → i < n → mul r (terms r (list (i + 1))) x k ≡ flip (mul r (terms r (list i)) x k) (window i))
+    → parity n window ≡ mul r (terms r (list n)) x k
+unfolding parity
+windows-sum r x k zero window list none more = sym (ap (λ (ps : List ℕ). mul r (terms r ps) x k) none ∙ term-none r x k)
+windows-sum r x k (suc n) window list none more =
+    ap (λ (b : Bool). flip b (window n)) (windows-sum r x k n window list none (λ i h. more i (omega arith)))
+    ∙ sym (rw (add-one n) at (more n (le-refl (suc n))))
+
 module _ (r : ℕ) (pos : 0 < r) where
-  -- it turns x by p places
-  pub term-more : (ps : List ℕ) (i : ℕ) (x : Poly) (k : ℕ) → i < length ps → getD ps i 0 < r → k < r
-      → mul r (terms r (take (i + 1) ps)) x k
-      ≡ flip (mul r (terms r (take i ps)) x k) (x ((r - getD ps i 0 + k) % r))
+  -- a term more turns x by p places
+  term-snoc : (ps : List ℕ) (p : ℕ) (x : Poly) (k : ℕ) → p < r → k < r
+      → mul r (terms r (ps ++ (p ∷ []))) x k ≡ flip (mul r (terms r ps) x k) (x ((r - p + k) % r))
   unfolding add
-  term-more ps i x k more low below =
-      let p : ℕ = getD ps i 0 in
+  term-snoc ps p x k low below =
       let turn : k + r - p % r ≡ r - p + k = rw (mod-eq-of-lt low) (omega arith) in
-      rw (add-one i, take-suc ps i 0 more, terms-snoc r (take i ps) p, Ring.add-mul r (terms r (take i ps)) (power r p) x)
-      (ap (flip (mul r (terms r (take i ps)) x k)) (Ring.power-mul r pos p x k below ∙ ap (λ (n : ℕ). x (n % r)) turn))
+      rw (terms-snoc r ps p, Ring.add-mul r (terms r ps) (power r p) x)
+      (ap (flip (mul r (terms r ps) x k)) (Ring.power-mul r pos p x k below ∙ ap (λ (n : ℕ). x (n % r)) turn))
+
+  pub term-more : (ps : List ℕ) (i from : ℕ) (x : Poly) (k : ℕ) → i < length ps → getD ps i 0 < r → k < r → from ≡ r - getD ps i 0
+      → mul r (terms r (take (i + 1) ps)) x k ≡ flip (mul r (terms r (take i ps)) x k) (window r x from k)
+  term-more ps i from x k more low below start =
+      rw (add-one i, take-suc ps i 0 more, start, window-at r x (r - getD ps i 0) k (omega arith))
+      (term-snoc (take i ps) (getD ps i 0) x k low below)
+
+  -- of positions below 2r, the next: a term more, or none
+  pub upper-more : (ps : List ℕ) (i from : ℕ) (x : Poly) (k : ℕ) → r < wordBits → i < length ps → getD ps i 0 < r + r → k < r
+      → UpperStart r (getD ps i 0) from
+      → mul r (terms r (upper r (take (i + 1) ps))) x k ≡ flip (mul r (terms r (upper r (take i ps))) x k) (window r x from k)
+  unfolding upper
+  upper-more ps i from x k small more low below start =
+      rw (add-one i, take-suc ps i 0 more, upper-snoc r (take i ps) (getD ps i 0)) (go (decLt (getD ps i 0) r))
+    where
+      p : ℕ
+      p = getD ps i 0
+
+      first : List ℕ
+      first = upper r (take i ps)
+
+      go : Dec (p < r) → mul r (terms r (first ++ upper r (p ∷ []))) x k ≡ flip (mul r (terms r first) x k) (window r x from k)
+      go (yes lower) =
+          rw (upper-low r p [] lower, append-nil first, start .1 lower, window-empty r x k small) (sym (flip-false (mul r (terms r first) x k)))
+      go (no h) =
+          let high : r ≤ p = omega arith in
+          let turn : r - (p - r) ≡ r + r - p = omega arith in
+          rw (upper-high r p [] high, start .0 high, window-at r x (r + r - p) k (omega arith), ← turn) (term-snoc first (p - r) x k (omega arith) below)
+
+  -- a sum of windows is a product by the list that they stand for
+  pub windows-product : (x : Poly) {y : Poly} (n : ℕ) (from : ℕ → ℕ) (list : ℕ → List ℕ) → list 0 ≡ []
+      → ((k i : ℕ) → k < r → i < n → mul r (terms r (list (i + 1))) x k ≡ flip (mul r (terms r (list i)) x k) (window r x (from i) k))
+      → InRing r y → ((k : ℕ) → k < r → y k ≡ parity n (λ i. window r x (from i) k)) → y ≡ mul r (terms r (list n)) x
+  windows-product x n from list none more inside sum =
+      Ring.ring-ext r inside (Ring.mul-in r pos (terms r (list n)) x)
+      (λ k below. sum k below ∙ windows-sum r x k n (λ i. window r x (from i) k) list none (λ i h. more k i below h))
+
+-- the start by arithmetic
+pub start-chosen : (r p : ℕ) → r < wordBits → p < r + r → (boolByte (leb r p) * (emptyWindow + p - 2 * r) ≤ emptyWindow)
+    × UpperStart r p (emptyWindow - boolByte (leb r p) * (emptyWindow + p - 2 * r))
+start-chosen r p small low = go (leb r p) refl
+  where
+    go : (t : Bool) → leb r p ≡ t → (boolByte t * (emptyWindow + p - 2 * r) ≤ emptyWindow)
+        × UpperStart r p (emptyWindow - boolByte t * (emptyWindow + p - 2 * r))
+    go true e = let high = leb-true r p e in (omega arith, ((λ h. omega arith), λ h. omega arith))
+    go false e = let lower = leb-false r p e in (omega arith, ((λ h. omega arith), λ h. omega arith))
+
+pub upper-is-start : (r p from : ℕ) → UpperStart r p from → Start r from
+upper-is-start r p from start = go (decLt p r)
+  where
+    go : Dec (p < r) → Start r from
+    go (yes low) = inr (start .1 low)
+    go (no high) = let at = start .0 (omega arith) in inl (omega arith)
+
+-- a start more is stored
+pub start-more : (P : ℕ → ℕ → Type 0) (from : List ℕ) (i v : ℕ) → i < length from → ((j : ℕ) → j < i → P j (getD from j 0)) → P i v
+    → (j : ℕ) → j < i + 1 → P j (getD (set from i v) j 0)
+start-more P from i v room before here =
+    below-more (λ j. P j (getD (set from i v) j 0)) i
+    (λ j h. rw (getD-set-other from i j v 0 (λ e. omega arith)) (before j h))
+    (rw (getD-set-same from i v 0 room) here)
 
 -- the word of r is filled up from the first
 module _ (r : ℕ) (xs : List ℕ) (room : r / 64 < length xs) (big : 64 ≤ r) (inside : InRing r (bits 64 xs)) where

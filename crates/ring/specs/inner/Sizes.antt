@@ -20,11 +20,15 @@ wordBits = 64 * words
 abbrev pub wordBytes : ℕ
 wordBytes = 8 * words
 
--- a polynomial twice in a row, in words, with one that the last window reads
-abbrev pub twiceWords : ℕ
-twiceWords = 2 * words + 1
+-- The sparse product has a polynomial twice in a row, and behind it an empty window of one word more than a polynomial has: the bit at
+-- which that starts, and the words of all.
+abbrev pub emptyWindow : ℕ
+emptyWindow = 64 * (2 * words)
 
--- and three times, one byte to a bit, for the decoder's rows
+abbrev pub windowWords : ℕ
+windowWords = 3 * words + 1
+
+-- and three times, for the decoder's rows
 abbrev pub rowsBits : ℕ
 rowsBits = 3 * wordBits
 

@@ -8,7 +8,7 @@ use lib.ListN.{length, getD, length-set}
 use Rattle.hashing.specs.Lists.{bits}
 use Rattle.hashing.proofs.Words.{bits-at}
 use Rattle.ring.specs.Polynomials.{Poly, InRing}
-use Rattle.ring.specs.inner.Sizes.{twiceWords}
+use Rattle.ring.specs.inner.Sizes.{windowWords}
 use Rattle.ring.proofs.Ring.{ring-ext}
 use Rattle.ring.proofs.Packed.{fill-below, fill-above}
 use Rattle.ring.proofs.sparse.copied.Statement.{statement}
@@ -16,7 +16,7 @@ use Rattle.ring.proofs.sparse.copied.Tie as tie
 
 abbrev Inv-loop : tie.InvT-loop
 Inv-loop n x d₀ i₀ d i =
-    (i ≤ n) × (length d ≡ twiceWords) × InRing (64 * i) (bits 64 d) × ((k : ℕ) → k < 64 * i → bits 64 d k ≡ bits 64 x k)
+    (i ≤ n) × (length d ≡ windowWords) × InRing (64 * i) (bits 64 d) × ((k : ℕ) → k < 64 * i → bits 64 d k ≡ bits 64 x k)
 
 abbrev μ-loop : tie.MeasureT-loop
 μ-loop n x d₀ i₀ d i = n - i

@@ -6,7 +6,8 @@ use native.Mathlib.Omega.{arith}
 use lib.ListN.{length, length-set}
 use Rattle.hashing.specs.Lists.{bits}
 use Rattle.ring.specs.Polynomials.{Poly}
-use Rattle.ring.proofs.Packed.{fill-below}
+use Rattle.ring.specs.inner.Sizes.{emptyWindow}
+use Rattle.ring.proofs.Packed.{fill-below, bits-set-other}
 use Rattle.ring.proofs.sparse.Laws.{pair-bits}
 use Rattle.ring.proofs.sparse.extend.Statement.{statement}
 use Rattle.ring.proofs.sparse.extend.Tie as tie
@@ -15,6 +16,7 @@ abbrev Inv-loop : tie.InvT-loop
 Inv-loop d₀ r j₀ d j =
     (r / 64 + 1 ≤ j) × (j ≤ 2 * (r / 64) + 2) × (length d ≡ length d₀)
     × ((a : Poly) → ((k : ℕ) → k < 64 * (r / 64 + 1) → bits 64 d₀ k ≡ a (k % r)) → (k : ℕ) → k < 64 * j → bits 64 d k ≡ a (k % r))
+    × ((k : ℕ) → emptyWindow ≤ k → bits 64 d k ≡ bits 64 d₀ k)
 
 abbrev μ-loop : tie.MeasureT-loop
 μ-loop d₀ r j₀ d j = 2 * (r / 64) + 2 - j
@@ -32,13 +34,14 @@ loop-again c =
           c .join .ensures e below ∙ pair-bits (was .d) (from / 64) (from % 64 + e) (omega arith)
           ∙ ap (bits 64 (was .d)) place ∙ was .inv .3 a start (64 * was .j + e - r) (omega arith)
           ∙ ap a (sym (mod-eq-sub-mod (omega arith)))),
+      λ k past. bits-set-other (was .d) (was .j) (c .join .result) k (λ e. omega arith) ∙ was .inv .4 k past,
     )
 
 returns : tie.Need-returns Inv-loop μ-loop
 returns c =
     let was = c .before .loop in
     let all : was .j ≡ 2 * (c .before .before .before .args .r / 64) + 2 = omega arith in
-    rw (← all) (was .inv .3)
+    (rw (← all) (was .inv .3), was .inv .4)
 
 pub extend-spec : {M : Type 1} → statement M
 extend-spec =
@@ -47,7 +50,7 @@ extend-spec =
     Inv-loop
     μ-loop
     (λ c. omega arith)
-    (λ c. (omega arith, omega arith, refl, λ a start. start))
+    (λ c. (omega arith, omega arith, refl, (λ a start. start), λ k past. refl))
     (λ c. omega arith)
     (λ c. omega arith)
     (λ c. omega arith)
