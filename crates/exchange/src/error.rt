@@ -1,21 +1,27 @@
-// H: the error of a message, as the two halves that wrapping sends and opening looks for.
+// H: the error of a message, as the two halves that wrapping sends and opening looks for. No branch depends on a position.
 use crate::sampler;
-use hashing::fill;
 use hashing::sponge;
+use ring::frame::cut;
+use ring::frame::zeros;
+use ring::multiply::WIDE;
+use ring::multiply::reduce;
+use ring::multiply::wide_zeros;
 use ring::size;
 use ring::size::MOST_T;
 use ring::size::WORDS;
+use ring::words;
 ghost use mathlib.Core.Path.{_≡_};
-ghost use mathlib.Core.Bool.{_&&_, _||_};
-ghost use Prim.Native.Nat.{_+_, _*_, _≤_};
+ghost use mathlib.Core.Bool.{true, _&&_, _||_};
+ghost use Prim.Native.Nat.{ℕ, _+_, _*_, _%_, _<_};
 ghost use lib.Dec.{eqb, ltb};
-ghost use lib.ListN.{length, take};
+ghost use lib.ListN.{length, take, replicate};
 ghost use Rattle.hashing.specs.Lists.{bits};
 ghost use Rattle.hashing.specs.Sponge.{shake256};
-ghost use Rattle.ring.specs.inner.Sizes.{errorBytes, mostT, wordBytes};
-ghost use Rattle.ring.specs.Bytes.{byteLength, bytesOf};
+ghost use Rattle.ring.specs.Bytes.{bytesOf};
 ghost use Rattle.ring.specs.Levels.{levelOf, polyBytes};
 ghost use Rattle.ring.specs.Polynomials.{listed};
+ghost use Rattle.ring.specs.inner.Sizes.{mostT, errorBytes, wordBits, wordBytes};
+ghost use Rattle.exchange.specs.Scheme;
 ghost use Rattle.exchange.specs.Scheme.{errorPositions, hashH};
 
 const STREAM: usize = 4 * MOST_T;
@@ -35,7 +41,7 @@ fn no_words() -> [u8; STREAM]
     [0; STREAM]
 }
 
-pub fn no_bytes() -> [u8; BYTES]
+fn no_bytes() -> [u8; BYTES]
     ensures { λ r. ⌜ wordBytes ≡ length r ⌝ }
 {
     [0; BYTES]
@@ -57,7 +63,7 @@ fn stream(level: u32, message: &[u8]) -> [u8; STREAM]
 }
 
 // The t positions of the error, at the front of the list.
-fn positions(level: u32, message: &[u8]) -> [u32; MOST_T]
+pub fn positions(level: u32, message: &[u8]) -> [u32; MOST_T]
     ensures { λ r. ⌜ take (levelOf level .t) r ≡ errorPositions (levelOf level) (now (message .entry)) ⌝ }
 {
     let t = size::error_weight(level);
@@ -69,32 +75,64 @@ fn positions(level: u32, message: &[u8]) -> [u32; MOST_T]
     list
 }
 
-// Sets the bit of a position that is one of the r from `from` on.
-fn put(r: u32, from: u32, position: u32, out: &mut [u8])
-    requires { ⌜ r ≤ 8 * length (now out) ⌝ }
-    ensures { λ _. ⌜ bits 8 (now (out .exit)) ≡ (λ k. bits 8 (now (out .entry)) k || (ltb k r && eqb (from + k) position)) ⌝ }
+// Sets the bit of a position.
+fn put(position: u32, out: &mut [u64])
+    requires { ⌜ position < 64 * length (now out) ⌝ }
+    ensures { λ _. ⌜ bits 64 (now (out .exit)) ≡ (λ k. bits 64 (now (out .entry)) k || eqb k position) ⌝ }
 {
-    if position < from {
-        return;
-    }
-    let k = position - from;
-    if k < r {
-        let i = (k / 8) as usize;
-        out[i] = out[i] | (1 << (k % 8));
+    let i = (position / 64) as usize;
+    out[i] = out[i] | (1 << (position % 64));
+}
+
+// The bits of the positions that are listed, in words that are 0.
+pub fn place(list: &[u32], out: &mut [u64])
+    requires { ⌜ now out ≡ replicate (length (now out)) 0 ⌝ ∗ ⌜ ((p : ℕ) → listed p (now list) ≡ true → p < 64 * length (now out)) ⌝ }
+    ensures { λ _. ⌜ bits 64 (now (out .exit)) ≡ (λ k. listed k (now (list .entry))) ⌝ }
+{
+    let mut i = 0;
+    while i < list.len() {
+        put(list[i], out);
+        i += 1;
     }
 }
 
-// One half: of the r positions from `from` on, those that are listed.
-pub fn place(list: &[u32], r: u32, from: u32, out: &mut [u8])
-    requires { ⌜ length (now out) ≡ byteLength r ⌝ }
-    ensures { λ _. ⌜ now (out .exit) ≡ bytesOf r (λ k. ltb k r && listed (from + k) (now (list .entry))) ⌝ }
+pub struct ErrorWords {
+    pub e0: [u64; WORDS],
+    pub e1: [u64; WORDS],
+}
+
+// The first r bits are e0's and the next r are e1's. With X^r = 1 they all come to the sum of both, and that and e0 are e1.
+fn split(r: usize, all: [u64; WIDE]) -> ErrorWords
+    requires { ⌜ (r % 2 ≡ 1) × (r < wordBits) ⌝ }
+    ensures { λ e. ⌜ (bits 64 (e .e0) ≡ (λ k. ltb k r && bits 64 all k)) × (bits 64 (e .e1) ≡ (λ k. ltb k r && bits 64 all (r + k))) ⌝ }
 {
-    fill::zero(out);
-    let mut i = 0;
-    while i < list.len() {
-        put(r, from, list[i], out);
-        i += 1;
-    }
+    let n = r / 64 + 1;
+    let mut front = zeros();
+    words::place(&mut front, &all[..n], 0);
+    let e0 = cut(r, front);
+    let e1 = words::sum(reduce(all, r), e0, n);
+    ErrorWords { e0, e1 }
+}
+
+// The two halves of the positions that are listed.
+pub fn halves(level: u32, list: &[u32]) -> ErrorWords
+    requires { ⌜ ((p : ℕ) → listed p (now list) ≡ true → p < 2 * levelOf level .r) ⌝ }
+    ensures { λ e. ⌜ (bits 64 (e .e0) ≡ Scheme.split (levelOf level .r) (now (list .entry)) .half0)
+        × (bits 64 (e .e1) ≡ Scheme.split (levelOf level .r) (now (list .entry)) .half1) ⌝ }
+{
+    let mut all = wide_zeros();
+    place(list, &mut all);
+    split(size::block(level), all)
+}
+
+// H in words.
+pub fn words_of(level: u32, message: &[u8]) -> ErrorWords
+    ensures { λ e. ⌜ (bits 64 (e .e0) ≡ hashH (levelOf level) (now (message .entry)) .half0)
+        × (bits 64 (e .e1) ≡ hashH (levelOf level) (now (message .entry)) .half1) ⌝ }
+{
+    let t = size::error_weight(level);
+    let list = positions(level, message);
+    halves(level, &list[..t])
 }
 
 // H for buffers of the level's length.
@@ -104,11 +142,11 @@ pub fn hash_h(level: u32, message: &[u8], e0: &mut [u8], e1: &mut [u8])
         ⌜ (now (e0 .exit) ≡ bytesOf (levelOf level .r) (hashH (levelOf level) (now (message .entry)) .half0))
         × (now (e1 .exit) ≡ bytesOf (levelOf level .r) (hashH (levelOf level) (now (message .entry)) .half1)) ⌝ }
 {
-    let t = size::error_weight(level);
-    let r = size::block(level) as u32;
-    let list = positions(level, message);
-    place(&list[..t], r, 0, e0);
-    place(&list[..t], r, r, e1);
+    let e = words_of(level, message);
+    let w0 = e.e0;
+    let w1 = e.e1;
+    words::store(w0, e0);
+    words::store(w1, e1);
 }
 
 pub struct ErrorBytes {
@@ -116,15 +154,15 @@ pub struct ErrorBytes {
     pub e1: [u8; BYTES],
 }
 
-// H by value: each half at the front of its array.
-pub fn halves_of(level: u32, message: &[u8]) -> ErrorBytes
-    ensures { λ e.
-        ⌜ (take (polyBytes (levelOf level)) (e .e0) ≡ bytesOf (levelOf level .r) (hashH (levelOf level) (now (message .entry)) .half0))
-        × (take (polyBytes (levelOf level)) (e .e1) ≡ bytesOf (levelOf level .r) (hashH (levelOf level) (now (message .entry)) .half1)) ⌝ }
+// An error's bytes, each half at the front of its array.
+pub fn stored(level: u32, e0: [u64; WORDS], e1: [u64; WORDS]) -> ErrorBytes
+    ensures { λ e. ⌜ (take (polyBytes (levelOf level)) (e .e0) ≡ bytesOf (levelOf level .r) (bits 64 e0))
+        × (take (polyBytes (levelOf level)) (e .e1) ≡ bytesOf (levelOf level .r) (bits 64 e1)) ⌝ }
 {
     let n = size::polynomial(level);
-    let mut e0 = no_bytes();
-    let mut e1 = no_bytes();
-    hash_h(level, message, &mut e0[..n], &mut e1[..n]);
-    ErrorBytes { e0, e1 }
+    let mut b0 = no_bytes();
+    let mut b1 = no_bytes();
+    words::store(e0, &mut b0[..n]);
+    words::store(e1, &mut b1[..n]);
+    ErrorBytes { e0: b0, e1: b1 }
 }

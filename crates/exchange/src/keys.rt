@@ -4,6 +4,7 @@ use crate::error;
 use crate::sampler;
 use hashing::sponge;
 use ring::WORDS;
+use ring::frame::zeros;
 use ring::invert;
 use ring::multiply;
 use ring::positions;
@@ -28,7 +29,7 @@ ghost use Rattle.exchange.specs.Scheme.{keyStream, h0Of, h1Of, publicOf,
 
 const STREAM: usize = 8 * MOST_D;
 
-// Room for the largest level: the words of both halves, and one half as positions and as exponents.
+// Room for the largest level: the words of both halves, and the positions of one.
 fn no_words() -> [u8; STREAM]
     ensures { λ r. ⌜ keyStreamBytes ≡ length r ⌝ }
 {
@@ -36,12 +37,6 @@ fn no_words() -> [u8; STREAM]
 }
 
 fn no_positions() -> [u32; MOST_D]
-    ensures { λ r. ⌜ mostD ≡ length r ⌝ }
-{
-    [0; MOST_D]
-}
-
-fn no_exponents() -> [u16; MOST_D]
     ensures { λ r. ⌜ mostD ≡ length r ⌝ }
 {
     [0; MOST_D]
@@ -82,11 +77,10 @@ fn half(level: u32, stream: &[u8]) -> [u64; WORDS]
         ≡ support (sampleKey (levelOf level .r) (levelOf level .d) (numbers 4 (levelOf level .d) (now (stream .entry)))) ⌝ }
 {
     let d = size::key_weight(level);
-    let n = size::polynomial(level);
     let list = sampled(level, stream);
-    let mut bytes = error::no_bytes();
-    error::place(&list[..d], size::block(level) as u32, 0, &mut bytes[..n]);
-    words::load(&bytes[..n])
+    let mut h = zeros();
+    error::place(&list[..d], &mut h);
+    h
 }
 
 pub struct KeyWords {
@@ -109,16 +103,6 @@ fn both_halves(level: u32, seed: &[u8]) -> KeyWords
     }
 }
 
-// The exponents of a half, at the front of the list.
-fn exponents(level: u32, h: [u64; WORDS]) -> [u16; MOST_D]
-    requires { ⌜ InRing (levelOf level .r) (bits 64 h) ⌝ ∗ ⌜ weight (levelOf level .r) (bits 64 h) ≡ levelOf level .d ⌝ }
-    ensures { λ p. ⌜ take (levelOf level .d) p ≡ Polynomials.rising (levelOf level .r) (bits 64 h) ⌝ }
-{
-    let mut list = no_exponents();
-    positions::rising(size::block(level), h, &mut list);
-    list
-}
-
 fn write_numbers(list: &[u16], out: &mut [u8])
     requires { ⌜ length (now out) ≡ 2 * length (now list) ⌝ }
     ensures { λ _. ⌜ now (out .exit) ≡ twoBytes (now (list .entry)) ⌝ }
@@ -138,7 +122,7 @@ fn write_half(level: u32, h: [u64; WORDS], out: &mut [u8])
     ensures { λ _. ⌜ now (out .exit) ≡ twoBytes (Polynomials.rising (levelOf level .r) (bits 64 h)) ⌝ }
 {
     let d = size::key_weight(level);
-    let list = exponents(level, h);
+    let list = positions::rising(size::block(level), h, d);
     write_numbers(&list[..d], out);
 }
 

@@ -8,6 +8,7 @@ pub mod doors;
 mod error;
 mod judge;
 pub mod keys;
+mod masks;
 mod opening;
 pub mod record;
 mod sampler;

@@ -6,40 +6,28 @@ use crate::decoder::read_key;
 use crate::digest::digest32;
 use crate::digest::no_digest;
 use crate::error;
+use crate::masks;
 use crate::wrapping;
 use ring::WORDS;
 use ring::size;
 use ring::sparse::sparse;
 use ring::words;
 ghost use mathlib.Core.Path.{_≡_};
-ghost use mathlib.Core.Bool.{true, false};
 ghost use mathlib.Core.List.{_++_};
-ghost use Prim.Native.Nat.{_≤_};
+ghost use Prim.Native.Nat.{_+_, _≤_};
+ghost use lib.Dec.{eqb};
 ghost use lib.ListN.{length, take, drop};
 ghost use Rattle.hashing.specs.Answers.{firstOf};
 ghost use Rattle.hashing.specs.Lists.{bits};
 ghost use Rattle.hashing.specs.Sponge.{sha3-384};
 ghost use Rattle.ring.specs.Bytes.{bytesOf};
 ghost use Rattle.ring.specs.Levels.{levelOf, messageBytes, polyBytes, ciphertextBytes};
-ghost use Rattle.ring.specs.Polynomials.{InRing, Tells, mul};
+ghost use Rattle.ring.specs.Polynomials.{InRing, add, mul, weight};
 ghost use Rattle.exchange.specs.Opening.{either, keyFor, opened};
 ghost use Rattle.exchange.specs.Promises.{opening-reasons};
 ghost use Rattle.exchange.specs.decoder.Decoder.{bgf};
 ghost use Rattle.exchange.specs.Scheme.{xorBytes};
 ghost use Rattle.exchange.specs.inner.Working.{keyOf, Good};
-
-// An error's bytes, each half at the front of its array.
-fn stored(level: u32, e0: [u64; WORDS], e1: [u64; WORDS]) -> error::ErrorBytes
-    ensures { λ e. ⌜ (take (polyBytes (levelOf level)) (e .e0) ≡ bytesOf (levelOf level .r) (bits 64 e0))
-        × (take (polyBytes (levelOf level)) (e .e1) ≡ bytesOf (levelOf level .r) (bits 64 e1)) ⌝ }
-{
-    let n = size::polynomial(level);
-    let mut b0 = error::no_bytes();
-    let mut b1 = error::no_bytes();
-    words::store(e0, &mut b0[..n]);
-    words::store(e1, &mut b1[..n]);
-    error::ErrorBytes { e0: b0, e1: b1 }
-}
 
 // m' = c1 xor L(e')
 fn message_of(level: u32, e: error::ErrorBytes, ciphertext: &[u8]) -> [u8; 32]
@@ -57,36 +45,27 @@ fn message_of(level: u32, e: error::ErrorBytes, ciphertext: &[u8]) -> [u8; 32]
     m
 }
 
-// Both halves are compared in every byte.
-fn same_error(level: u32, e: error::ErrorBytes, f: error::ErrorBytes) -> bool
-    requires { ⌜ (polyBytes (levelOf level) ≤ length (e .e0)) × (polyBytes (levelOf level) ≤ length (e .e1))
-        × (polyBytes (levelOf level) ≤ length (f .e0)) × (polyBytes (levelOf level) ≤ length (f .e1)) ⌝ }
-    ensures { λ t. ⌜ Tells t ((take (polyBytes (levelOf level)) (e .e0) ≡ take (polyBytes (levelOf level)) (f .e0))
-        × (take (polyBytes (levelOf level)) (e .e1) ≡ take (polyBytes (levelOf level)) (f .e1))) ⌝ }
+// How many bits of two errors differ: both halves are compared in every bit.
+fn differences(level: u32, e0: [u64; WORDS], e1: [u64; WORDS], f: error::ErrorWords) -> usize
+    requires { ⌜ InRing (levelOf level .r) (bits 64 e0) × InRing (levelOf level .r) (bits 64 e1) ⌝
+        ∗ ⌜ InRing (levelOf level .r) (bits 64 (f .e0)) × InRing (levelOf level .r) (bits 64 (f .e1)) ⌝ }
+    ensures { λ n. ⌜ n ≡ weight (levelOf level .r) (add (bits 64 e0) (bits 64 (f .e0))) + weight (levelOf level .r) (add (bits 64 e1) (bits 64 (f .e1))) ⌝ }
 {
-    let n = size::polynomial(level);
-    let e0 = e.e0;
-    let e1 = e.e1;
+    let n = size::block(level) / 64 + 1;
     let f0 = f.e0;
     let f1 = f.e1;
-    let same0 = bytes::same(&e0[..n], &f0[..n]);
-    let same1 = bytes::same(&e1[..n], &f1[..n]);
-    same0 & same1
+    let d0 = words::weight(words::sum(e0, f0, n), n);
+    let d1 = words::weight(words::sum(e1, f1, n), n);
+    d0 + d1
 }
 
-fn mask_of(own: bool) -> u8
-    ensures { λ mask. ⌜ (own ≡ true → mask ≡ 255) × (own ≡ false → mask ≡ 0) ⌝ }
-{
-    if own { 255 } else { 0 }
-}
-
-// m' where it was the sender's own, else sigma.
-fn chosen(own: bool, m: [u8; 32], sigma: &[u8]) -> [u8; 32]
-    requires { ⌜ (length m ≡ messageBytes) × (length (now sigma) ≡ messageBytes) ⌝ }
-    ensures { λ r. ⌜ r ≡ either own m (now (sigma .entry)) ⌝ }
+// m' where it was the sender's own, so that nothing differs, else sigma.
+fn chosen(differences: usize, m: [u8; 32], sigma: &[u8]) -> [u8; 32]
+    requires { ⌜ (differences ≤ 65536) × (length m ≡ messageBytes) × (length (now sigma) ≡ messageBytes) ⌝ }
+    ensures { λ r. ⌜ r ≡ either (eqb differences 0) m (now (sigma .entry)) ⌝ }
 {
     let mut out = no_digest();
-    bytes::choose(mask_of(own), &m, sigma, &mut out);
+    bytes::choose(masks::byte(differences), &m, sigma, &mut out);
     out
 }
 
@@ -103,11 +82,10 @@ fn write_session_key(
         ∗ ⌜ InRing (levelOf level .r) (bits 64 e0) ⌝ ∗ ⌜ InRing (levelOf level .r) (bits 64 e1) ⌝ }
     ensures { λ r. ⌜ (r ≡ 0) × (now (out .exit) ≡ keyFor (levelOf level) (now (sigma .entry)) (now (ciphertext .entry)) (record { half0 = bits 64 e0; half1 = bits 64 e1 })) ⌝ }
 {
-    let e = stored(level, e0, e1);
-    let m = message_of(level, e, ciphertext);
-    let again = error::halves_of(level, &m);
-    let own = same_error(level, e, again);
-    let secret = chosen(own, m, sigma);
+    let m = message_of(level, error::stored(level, e0, e1), ciphertext);
+    let again = error::words_of(level, &m);
+    let differing = differences(level, e0, e1, again);
+    let secret = chosen(differing, m, sigma);
     wrapping::write_key(&secret, ciphertext, out);
     0
 }

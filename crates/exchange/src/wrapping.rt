@@ -3,50 +3,50 @@ use crate::bytes;
 use crate::digest::digest32;
 use crate::error;
 use ring::WORDS;
-use ring::positions;
 use ring::size;
-use ring::size::MOST_T;
-use ring::sparse::sparse;
+use ring::sparse::sparse_upper;
 use ring::words;
 ghost use mathlib.Core.Path.{_≡_};
 ghost use mathlib.Core.List.{_++_};
-ghost use Prim.Native.Nat.{_≤_};
 ghost use lib.ListN.{length, take};
 ghost use Rattle.hashing.specs.Answers.{firstOf};
 ghost use Rattle.hashing.specs.Lists.{bits};
 ghost use Rattle.hashing.specs.Sponge.{sha3-384};
-ghost use Rattle.ring.specs.inner.Sizes.{mostT};
 ghost use Rattle.ring.specs.Bytes.{bytesOf};
 ghost use Rattle.ring.specs.Levels.{levelOf, messageBytes, polyBytes, ciphertextBytes};
-ghost use Rattle.ring.specs.Polynomials.{InRing, add, mul, weight};
+ghost use Rattle.ring.specs.Polynomials.{InRing, add, mul};
 ghost use Rattle.exchange.specs.Promises.{wrapping-reasons};
-ghost use Rattle.exchange.specs.Scheme.{hashK, xorBytes, wrapped};
+ghost use Rattle.exchange.specs.Scheme.{hashH, hashK, xorBytes, wrapped};
 
-fn no_exponents() -> [u16; MOST_T]
-    ensures { λ p. ⌜ mostT ≡ length p ⌝ }
-{
-    [0; MOST_T]
+pub struct Addends {
+    pub e0: [u64; WORDS],
+    pub e1: [u64; WORDS],
+    pub product: [u64; WORDS],
 }
 
-// e1·h, over the exponents of e1: an error has few.
-fn error_times(level: u32, e1: [u64; WORDS], h: [u64; WORDS]) -> [u64; WORDS]
-    requires { ⌜ InRing (levelOf level .r) (bits 64 e1) × (weight (levelOf level .r) (bits 64 e1) ≤ mostT) × InRing (levelOf level .r) (bits 64 h) ⌝ }
-    ensures { λ p. ⌜ bits 64 p ≡ mul (levelOf level .r) (bits 64 e1) (bits 64 h) ⌝ }
+// The error of a message, and e1·h. All positions go into the product, those of e0 as empty windows, so that the work is the same for
+// every message.
+fn addends_of(level: u32, h: [u64; WORDS], message: &[u8]) -> Addends
+    requires { ⌜ InRing (levelOf level .r) (bits 64 h) ⌝ }
+    ensures { λ a. ⌜ (bits 64 (a .e0) ≡ hashH (levelOf level) (now (message .entry)) .half0)
+        × (bits 64 (a .e1) ≡ hashH (levelOf level) (now (message .entry)) .half1)
+        × (bits 64 (a .product) ≡ mul (levelOf level .r) (hashH (levelOf level) (now (message .entry)) .half1) (bits 64 h)) ⌝ }
 {
-    let r = size::block(level);
-    let mut exponents = no_exponents();
-    let n = positions::rising(r, e1, &mut exponents);
-    sparse(r, &exponents, n, h)
+    let t = size::error_weight(level);
+    let list = error::positions(level, message);
+    let e = error::halves(level, &list[..t]);
+    let product = sparse_upper(size::block(level), &list, t, h);
+    let e0 = e.e0;
+    let e1 = e.e1;
+    Addends { e0, e1, product }
 }
 
 // c0 = e0 + e1·h
-fn write_c0(level: u32, e0: [u64; WORDS], e1: [u64; WORDS], h: [u64; WORDS], out: &mut [u8])
-    requires { ⌜ length (now out) ≡ polyBytes (levelOf level) ⌝ ∗ ⌜ InRing (levelOf level .r) (bits 64 e0) ⌝
-        ∗ ⌜ InRing (levelOf level .r) (bits 64 e1) × (weight (levelOf level .r) (bits 64 e1) ≤ mostT) × InRing (levelOf level .r) (bits 64 h) ⌝ }
-    ensures { λ _. ⌜ now (out .exit) ≡ bytesOf (levelOf level .r) (add (bits 64 e0) (mul (levelOf level .r) (bits 64 e1) (bits 64 h))) ⌝ }
+fn write_c0(level: u32, e0: [u64; WORDS], product: [u64; WORDS], out: &mut [u8])
+    requires { ⌜ length (now out) ≡ polyBytes (levelOf level) ⌝ ∗ ⌜ InRing (levelOf level .r) (bits 64 e0) ⌝ ∗ ⌜ InRing (levelOf level .r) (bits 64 product) ⌝ }
+    ensures { λ _. ⌜ now (out .exit) ≡ bytesOf (levelOf level .r) (add (bits 64 e0) (bits 64 product)) ⌝ }
 {
     let r = size::block(level);
-    let product = error_times(level, e1, h);
     words::store(words::sum(e0, product, r / 64 + 1), out);
 }
 
@@ -66,13 +66,15 @@ fn write_ciphertext(level: u32, h: &[u8], message: &[u8], out: &mut [u8])
     ensures { λ _. ⌜ now (out .exit) ≡ wrapped (levelOf level) (bits 8 (now (h .entry))) (now (message .entry)) ⌝ }
 {
     let n = size::polynomial(level);
-    let e = error::halves_of(level, message);
-    let e0 = e.e0;
-    let e1 = e.e1;
-    let w0 = words::load(&e0[..n]);
-    let w1 = words::load(&e1[..n]);
-    write_c0(level, w0, w1, words::load(h), &mut out[..n]);
-    write_c1(message, &e0[..n], &e1[..n], &mut out[n..]);
+    let a = addends_of(level, words::load(h), message);
+    let e0 = a.e0;
+    let e1 = a.e1;
+    let product = a.product;
+    write_c0(level, e0, product, &mut out[..n]);
+    let b = error::stored(level, e0, e1);
+    let b0 = b.e0;
+    let b1 = b.e1;
+    write_c1(message, &b0[..n], &b1[..n], &mut out[n..]);
 }
 
 pub fn write_key(message: &[u8], ciphertext: &[u8], out: &mut [u8])

@@ -1,23 +1,24 @@
--- A bit that is set in a list of bytes, and which bit a position is. Assumes nothing.
+-- A bit that is set in a list of words, the bits of a list of positions, and the two halves of them. Assumes nothing.
 use mathlib.Core.Path.{_≡_, refl, sym, ap, _∙_, fun-ext}
-use mathlib.Core.Bool.{Bool, false, _&&_, _||_, and-false, or-false, and-or-distrib-left}
-use mathlib.Core.List.{List}
-use Prim.Native.Nat.{ℕ, _+_, _-_, _*_, _/_, _%_, _^_, _≤_, _<_}
-use native.Mathlib.Nat.{one-mul, zero-add, div-add-mod', le-refl}
+use mathlib.Core.Bool.{Bool, true, false, _&&_, _||_, or-false, or-true}
+use mathlib.Core.List.{List, [], _∷_}
+use mathlib.Core.Logic.{inr}
+use Prim.Native.Nat.{ℕ, zero, suc, _+_, _*_, _/_, _%_, _^_, _≤_, _<_}
+use native.Mathlib.Nat.{one-mul, zero-add, add-comm, div-add-mod', le-refl, not-suc-le-zero, le-of-suc-le-suc}
 use native.Mathlib.Decide.{decLt, ℕ-discrete}
 use native.Mathlib.Numerals.{add-one}
 use native.Mathlib.Omega.{arith}
 use lib.Arith.{digits-div, digits-mod}
 use lib.Bits.{bitOr}
 use lib.Dec.{eqb, ltb}
-use lib.ListN.{length, getD, set, take, replicate}
-use lib.Pow.{pow-pos, pow-lt}
-use lib.Seq.{getD-set-same, getD-set-other, take-suc}
+use lib.ListN.{length, getD, set, take}
+use lib.Pow.{pow-lt}
+use lib.Seq.{getD-set-same, getD-set-other, getD-take, take-suc, length-take-le}
 use borrow.Author.Tests.{lt-ltb, le-ltb, eq-eqb, ne-eqb}
 use Rattle.hashing.specs.Lists.{bitAt, bits}
-use Rattle.hashing.proofs.Words.{bit-or, bit-above, bit-shl, bit-shl-below, zero-at, bits-none}
-use Rattle.ring.specs.Polynomials.{Poly, listed}
-use Rattle.ring.proofs.Layouts.{Below}
+use Rattle.hashing.proofs.Words.{bit-or, bit-above, bit-shl, bit-shl-below, bit-zero}
+use Rattle.ring.specs.Polynomials.{Poly, InRing, flip, add, listed}
+use Rattle.ring.specs.inner.Wide.{Outside}
 use Rattle.ring.proofs.Parity.{eqb-same}
 use Rattle.exchange.proofs.sampler.Laws.{listed-snoc}
 
@@ -50,38 +51,58 @@ bits-set w xs i e within low = fun-ext (λ k. go k (ℕ-discrete (k / w) i))
         )
         (sym (or-false (bitAt (getD xs (k / w) 0) (k % w))))
 
--- a position that is one of the r from `from` on, or none of them
-module _ (r from position : ℕ) where
-  pub hit : from ≤ position → position - from < r → (k : ℕ) → ltb k r && eqb (from + k) position ≡ eqb k (position - from)
-  hit low high k = go (ℕ-discrete k (position - from))
-    where
-      go : Dec (k ≡ position - from) → ltb k r && eqb (from + k) position ≡ eqb k (position - from)
-      go (yes same) = rw (lt-ltb k r (omega arith), eq-eqb k (position - from) same) (eq-eqb (from + k) position (omega arith))
-      go (no other) = rw (ne-eqb (from + k) position (omega arith), ne-eqb k (position - from) other) (and-false (ltb k r))
-
-  pub miss : ((k : ℕ) → k < r → from + k ≡ position → ⊥) → (k : ℕ) → ltb k r && eqb (from + k) position ≡ false
-  miss outside k = go (decLt k r)
-    where
-      go : Dec (k < r) → ltb k r && eqb (from + k) position ≡ false
-      go (yes within) = rw (lt-ltb k r within) (ne-eqb (from + k) position (outside k within))
-      go (no past) = rw (le-ltb k r (omega arith))
-
 -- ---- the loop that puts in the positions of a list
 
-pub zeros-below : (w n : ℕ) → Below w (replicate n 0)
-zeros-below w n i = rw (zero-at n i) (pow-pos w)
+pub listed-at : (list : List ℕ) (i : ℕ) → i < length list → listed (getD list i 0) list ≡ true
+unfolding listed
+listed-at [] i more = absurd (not-suc-le-zero more)
+listed-at (x ∷ list) zero more = rw (eq-eqb x x refl)
+listed-at (x ∷ list) (suc i) more = rw (listed-at list i (le-of-suc-le-suc more)) (or-true (eqb (getD list i 0) x))
 
-module _ (r from : ℕ) (list : List ℕ) where
-  pub placed-none : (w n : ℕ) → bits w (replicate n 0) ≡ (λ k. ltb k r && listed (from + k) (take 0 list))
-  unfolding listed
-  placed-none w n = fun-ext (λ k. bits-none w n k ∙ sym (and-false (ltb k r)))
+pub placed-more : (list : List ℕ) (i : ℕ) {before after : Poly} → i < length list → before ≡ (λ k. listed k (take i list))
+    → after ≡ (λ k. before k || eqb k (getD list i 0)) → after ≡ (λ k. listed k (take (i + 1) list))
+placed-more list i more so-far step =
+    step ∙ fun-ext (λ k. rw (so-far, add-one i, take-suc list i 0 more, listed-snoc k (take i list) (getD list i 0)))
 
-  pub placed-more : (i : ℕ) {before after : Poly} → i < length list
-      → before ≡ (λ k. ltb k r && listed (from + k) (take i list))
-      → after ≡ (λ k. before k || (ltb k r && eqb (from + k) (getD list i 0)))
-      → after ≡ (λ k. ltb k r && listed (from + k) (take (i + 1) list))
-  placed-more i more so-far step =
-      step
-      ∙ fun-ext (λ k.
-      rw (so-far, add-one i, take-suc list i 0 more, listed-snoc (from + k) (take i list) (getD list i 0))
-      (sym (and-or-distrib-left (ltb k r) (listed (from + k) (take i list)) (eqb (from + k) (getD list i 0)))))
+-- ---- both halves from the bits of all positions
+
+-- the first n words of a list, written to the front of words that are 0
+module _ (n : ℕ) (all old now : List ℕ) (within : n ≤ length all) (blank : (j : ℕ) → getD old j 0 ≡ 0)
+    (kept : Outside 0 (length (take n all)) old now) (copied : (j : ℕ) → j < length (take n all) → getD now (0 + j) 0 ≡ getD (take n all) j 0) where
+  front-word : (j : ℕ) → j < n → getD now j 0 ≡ getD all j 0
+  front-word j below =
+      ap (λ (k : ℕ). getD now k 0) (sym (zero-add j)) ∙ copied j (rw (length-take-le n all within) below) ∙ getD-take n all j 0 below
+
+  pub front-bits : (k : ℕ) → k < 64 * n → bits 64 now k ≡ bits 64 all k
+  unfolding bits
+  front-bits k below = ap (λ (x : ℕ). bitAt x (k % 64)) (front-word (k / 64) (omega arith))
+
+  pub front-in : InRing (64 * n) (bits 64 now)
+  unfolding bits
+  front-in k past =
+      let end : 0 + length (take n all) ≤ k / 64 = omega (arith, length-take-le n all within) in
+      ap (λ (x : ℕ). bitAt x (k % 64)) (kept (k / 64) (inr end) ∙ blank (k / 64)) ∙ bit-zero (k % 64)
+
+-- the sum of both, and one of them, is the other
+pub other-half : (r : ℕ) (all e0 both : Poly) → InRing r e0 → ((k : ℕ) → k < r → e0 k ≡ all k) → InRing r both
+    → ((k : ℕ) → k < r → both k ≡ flip (all k) (all (k + r))) → add both e0 ≡ (λ k. ltb k r && all (r + k))
+unfolding add
+other-half r all e0 both in0 is0 in-both is-both = fun-ext (λ k. go k (decLt k r))
+  where
+    cancel : (a b : Bool) → flip (flip a b) a ≡ b
+    cancel true true = refl
+    cancel true false = refl
+    cancel false true = refl
+    cancel false false = refl
+
+    go : (k : ℕ) → Dec (k < r) → flip (both k) (e0 k) ≡ ltb k r && all (r + k)
+    go k (yes below) = rw (is0 k below, is-both k below, lt-ltb k r below) (cancel (all k) (all (k + r)) ∙ ap all (add-comm k r))
+    go k (no past) = let end : r ≤ k = omega arith in rw (in0 k end, in-both k end, le-ltb k r end)
+
+-- what is cut at r
+pub front-half : (r : ℕ) (all e0 : Poly) → InRing r e0 → ((k : ℕ) → k < r → e0 k ≡ all k) → e0 ≡ (λ k. ltb k r && all k)
+front-half r all e0 in0 is0 = fun-ext (λ k. go k (decLt k r))
+  where
+    go : (k : ℕ) → Dec (k < r) → e0 k ≡ ltb k r && all k
+    go k (yes below) = rw (lt-ltb k r below) (is0 k below)
+    go k (no past) = let end : r ≤ k = omega arith in rw (le-ltb k r end) (in0 k end)

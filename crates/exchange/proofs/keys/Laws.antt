@@ -63,15 +63,6 @@ module _ (level : ℕ) (seed : List ℕ) where
       sampled-half (levelOf level .r) (levelOf level .d) (drop (4 * levelOf level .d) (keyStream (levelOf level) seed)) (omega arith)
       (below-drop 8 (4 * levelOf level .d) (keyStream (levelOf level) seed) stream-below)
 
--- the bytes that a half's positions are put in
-pub half-bits : (r d : ℕ) (stream : List ℕ) {list out : List ℕ} → d ≤ r → Below 8 stream → list ≡ sampleKey r d (numbers 4 d stream)
-    → out ≡ bytesOf r (λ k. ltb k r && listed (0 + k) list) → bits 8 out ≡ support (sampleKey r d (numbers 4 d stream))
-unfolding support
-half-bits r d stream {list} {out} room small sampled placed =
-    let seen : bits 8 out ≡ (λ k. ltb k r && listed (0 + k) list) =
-    rw placed (bits-bytesOf r {a = λ k. ltb k r && listed (0 + k) list} (λ k past. rw (le-ltb k r past))) in
-    (simp zero-add at seen) ∙ rw sampled (bounded r (sampled-half r d stream room small .inside))
-
 -- two bytes more: the loop that writes positions
 twoBytes-append : (xs ys : List ℕ) → twoBytes (xs ++ ys) ≡ twoBytes xs ++ twoBytes ys
 unfolding twoBytes

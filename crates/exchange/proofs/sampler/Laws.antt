@@ -15,6 +15,7 @@ use borrow.Author.Tests.{eqb-true, eqb-false, eq-eqb, ne-eqb}
 use Rattle.ring.specs.Polynomials.{weight, listed}
 use Rattle.exchange.specs.Sampler.{candidate, appended, sampleBelow, sample}
 use Rattle.ring.proofs.Bools.{both-false, one-true}
+use Rattle.ring.proofs.Upper.{Distinct}
 use Rattle.ring.proofs.Weights.{weight-none, weight-more}
 
 pub listed-snoc : (p : ℕ) (list : List ℕ) (x : ℕ) → listed p (list ++ (x ∷ [])) ≡ listed p list || eqb p x
@@ -35,11 +36,6 @@ unfolding sampleBelow
 sample-turn len words j n list v room e = rw (add-one n, add-one j, take-suc-set list n v room, e)
 
 -- ---- the list
-
--- no position is listed twice
-abbrev pub Distinct : List ℕ → Type 0
-Distinct [] = Unit
-Distinct (x ∷ list) = (listed x list ≡ false) × Distinct list
 
 distinct-snoc : (list : List ℕ) (x : ℕ) → Distinct list → listed x list ≡ false → Distinct (list ++ (x ∷ []))
 unfolding listed

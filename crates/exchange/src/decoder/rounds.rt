@@ -7,18 +7,20 @@ use crate::decoder::halves::flipped;
 use crate::decoder::halves::nothing;
 use crate::decoder::halves::without;
 use crate::decoder::private_key::Key;
+use crate::masks;
 use ring::WORDS;
+use ring::frame::zeros;
 use ring::level::level_of;
 use ring::size;
 use ring::sparse::sparse;
 use ring::words;
 ghost use mathlib.Core.Path.{_≡_};
-ghost use mathlib.Core.Bool.{_&&_};
-ghost use Prim.Native.Nat.{_≤_};
+ghost use mathlib.Core.Bool.{false, _&&_};
+ghost use Prim.Native.Nat.{_-_, _*_, _^_, _≤_};
 ghost use lib.Dec.{ltb, leb};
 ghost use lib.ListN.{length, getD, replicate};
 ghost use Rattle.hashing.specs.Lists.{bits};
-ghost use Rattle.ring.specs.inner.Sizes.{wordBits};
+ghost use Rattle.ring.specs.inner.Sizes.{words, wordBits};
 ghost use Rattle.ring.specs.Levels.{levelOf};
 ghost use Rattle.ring.specs.Polynomials.{InRing};
 ghost use Rattle.ring.specs.Polynomials;
@@ -160,14 +162,32 @@ fn rounds(level: u32, key: Key, s: [u64; WORDS]) -> WordPair
     e
 }
 
-// The error of a decoding that did not fail, and no error after one that did.
-fn kept(failed: bool, e: WordPair) -> WordPair
-    ensures { λ k. ⌜ pairOf k ≡ Working.kept failed (pairOf e) ⌝ }
+// The words of x under a mask: all of x, or nothing.
+fn under(mask: u64, x: [u64; WORDS], n: usize) -> [u64; WORDS]
+    requires { ⌜ (n ≤ words) × InRing (64 * n) (bits 64 x) ⌝ }
+    ensures { λ y. ⌜ (mask ≡ 2 ^ 64 - 1 → bits 64 y ≡ bits 64 x) × (mask ≡ 0 → bits 64 y ≡ (λ k. false)) ⌝ }
 {
-    if failed {
-        return nothing();
+    let mut y = zeros();
+    let mut i = 0;
+    while i < n {
+        y[i] = x[i] & mask;
+        i += 1;
     }
-    e
+    y
+}
+
+// The error of a decoding that left no bit of the residual, and no error after one that left some. No branch tells which.
+fn kept(level: u32, left: usize, e: WordPair) -> WordPair
+    requires { ⌜ left ≤ 65536 ⌝ ∗ ⌜ Inside (levelOf level) e ⌝ }
+    ensures { λ k. ⌜ pairOf k ≡ Working.kept (ltb 0 left) (pairOf e) ⌝ }
+{
+    let n = size::block(level) / 64 + 1;
+    let mask = masks::word(left);
+    let e0 = e.e0;
+    let e1 = e.e1;
+    let k0 = under(mask, e0, n);
+    let k1 = under(mask, e1, n);
+    WordPair { e0: k0, e1: k1 }
 }
 
 pub struct Found {
@@ -184,12 +204,12 @@ pub fn find(level: u32, key: Key, s: [u64; WORDS]) -> Found
         × (bits 64 (found .e1) ≡ Decoder.found Decoder.bgf (levelOf level) (keyOf (levelOf level) key) (bits 64 s) .half1) ⌝ }
 {
     let e = rounds(level, key, s);
-    let failed = 0 < ones(level, residual(level, key, s, e));
-    let error = kept(failed, e);
+    let left = ones(level, residual(level, key, s, e));
+    let error = kept(level, left, e);
     let e0 = error.e0;
     let e1 = error.e1;
     Found {
-        failed: failed,
+        failed: 0 < left,
         e0: e0,
         e1: e1,
     }

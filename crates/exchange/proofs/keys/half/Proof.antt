@@ -1,69 +1,47 @@
--- `half` puts the positions that were sampled into bytes, and loads them.
+-- `half` sets the bits of the positions that were sampled.
 use mathlib.Core.Path.{_≡_, sym, ap, _∙_}
-use mathlib.Core.List.{_++_}
-use Prim.Native.Nat.{_≤_}
+use Prim.Native.Nat.{ℕ, _≤_}
 use native.Mathlib.Omega.{arith}
-use lib.ListN.{length, take, drop}
-use lib.Seq.{length-take-le, length-front, take-at}
+use lib.ListN.{length, take, replicate, length-replicate}
+use lib.Seq.{length-take-le}
 use borrow.Author.Needs.{needs}
-use Rattle.hashing.specs.Lists.{bits}
-use Rattle.ring.specs.Bytes.{byteLength}
+use Rattle.ring.specs.Bytes.{numbers}
 use Rattle.ring.specs.Levels.{levelOf}
+use Rattle.ring.specs.Polynomials.{support}
+use Rattle.ring.specs.inner.Sizes.{words}
 use Rattle.ring.proofs.Levels.{sizes}
-use Rattle.exchange.proofs.keys.Laws.{half-bits}
+use Rattle.exchange.specs.Sampler.{sampleKey}
+use Rattle.exchange.proofs.Streams.{words-below}
+use Rattle.exchange.proofs.sampler.Laws.{sample-below}
 use Rattle.exchange.proofs.keys.half.Statement.{statement}
 use Rattle.exchange.proofs.keys.half.Tie as tie
 
--- the level's positions and bytes fit
-list-room : (c : tie.After-no-bytes) → c .before .before .before .key-weight .result ≤ length (c .before .sampled .result)
-list-room c = omega (arith, sizes (c .before .before .before .before .before .args .level))
+room : (c : tie.After-sampled) → c .before .key-weight .result ≤ length (c .sampled .result)
+room c = omega (arith, sizes (c .before .before .before .args .level))
 
-room : (c : tie.After-no-bytes) → c .before .before .polynomial .result ≤ length (c .no-bytes .result)
-room c = omega (arith, sizes (c .before .before .before .before .before .args .level))
-
-cut : (c : tie.After-no-bytes) →
-    let n = c .before .before .polynomial .result in
-    length (take n (c .no-bytes .result)) ≡ n
-cut c = length-take-le _ _ (room c)
+listed-is : (c : tie.After-sampled) →
+    let given = c .before .before .before .args in
+    let l = levelOf (given .level) in
+    take (c .before .key-weight .result) (c .sampled .result) ≡ sampleKey (l .r) (l .d) (numbers 4 (l .d) (given .stream .now))
+listed-is c = rw (c .before .key-weight .ensures) (c .sampled .ensures)
 
 place-requires : tie.Need-place-requires
+unfolding sampleKey
 place-requires c κs =
     let made = c .before .before .before in
-    cut made ∙ made .before .before .polynomial .ensures ∙ ap byteLength (sym (c .before .block .ensures))
-
--- the bytes after the positions are put in: their front is what was lent
-front : (c : tie.After-place) →
-    let made = c .before .before .before .before in
-    let n = made .before .before .polynomial .result in
-    take n (c .place .last .1 .1 .1 .0 ++ drop n (made .no-bytes .result)) ≡ c .place .last .1 .1 .1 .0
-front c = take-at _ _ _ (c .place .kept .1 .1 .1 .0 ∙ cut (c .before .before .before .before))
-
-long : (c : tie.After-place) →
-    let made = c .before .before .before .before in
-    let n = made .before .before .polynomial .result in
-    n ≤ length (c .place .last .1 .1 .1 .0 ++ drop n (made .no-bytes .result))
-long c =
-    let made = c .before .before .before .before in
-    rw (length-front (made .no-bytes .result) (c .place .last .1 .1 .1 .0) _ (c .place .kept .1 .1 .1 .0)) (room made)
-
-load-requires : tie.Need-load-requires
-load-requires c κs =
-    let placed = c .before .before in
-    let made = placed .before .before .before .before in
-    rw (length-take-le _ _ (long placed)) (omega (arith, sizes (made .before .before .before .before .before .args .level)))
+    let known = made .before .before in
+    let given = known .before .args in
+    let l = levelOf (given .level) in
+    let zeros = c .before .before .zeros .ensures in
+    let long : length (c .before .before .zeros .result) ≡ words = ap length zeros ∙ length-replicate {A = ℕ} words 0 in
+    let bounds = sizes (given .level) in
+    let small = words-below (l .d) (given .stream .now) (λ i. known .shared-slice-known .given i .fits) in
+    (zeros ∙ ap (λ (n : ℕ). replicate n 0) (sym long), rw (listed-is made) (λ p listed. let below = sample-below (l .r) (l .d) (numbers 4 (l .d) (given .stream .now)) (omega arith) small p listed in omega (arith, long)))
 
 returns : tie.Need-returns
+unfolding support
 returns c =
-    let placed = c .before .before .before in
-    let made = placed .before .before .before .before in
-    let start = made .before .before .before .before in
-    let level = levelOf (start .before .args .level) in
-    let bounds = sizes (start .before .args .level) in
-    c .load .ensures
-    ∙ ap (bits 8) (front placed)
-    ∙ half-bits (level .r) (level .d) (start .before .args .stream .now) (omega arith) (λ i. start .shared-slice-known .given i .fits)
-    (rw (made .before .before .before .key-weight .ensures) (made .before .sampled .ensures))
-    (rw (placed .before .before .block .ensures) at (placed .place .ensures))
+    let placed = c .before in rw (listed-is (placed .before .before .before .before)) at (placed .place .ensures)
 
 pub half-spec : {M : Type 1} → statement M
 half-spec =
@@ -72,15 +50,8 @@ half-spec =
     (λ c κs. search needs)
     (λ c κs. search needs)
     (λ c κs. search needs)
-    (λ c κs. search needs)
-    list-room
-    (λ c. sym (length-take-le _ _ (list-room (c .before))))
-    (λ c κs. search needs)
-    (λ c. omega (arith, sizes (c .before .before .before .before .before .before .before .args .level)))
-    (λ c. room (c .before .before))
-    (λ c. sym (cut (c .before .before .before)))
+    (λ c. room (c .before))
+    (λ c. sym (length-take-le _ _ (room (c .before .before))))
+    (λ c. search needs)
     place-requires
-    (λ c. long (c .before))
-    (λ c. sym (length-take-le _ _ (long (c .before .before))))
-    load-requires
     returns)

@@ -2,15 +2,22 @@
 use mathlib.Core.Path.{_≡_, refl, ap, _∙_}
 use mathlib.Core.List.{List}
 use Prim.Native.Nat.{ℕ}
+use native.Mathlib.Omega.{arith}
+use lib.Dec.{eqb}
+use lib.ListN.{length}
 use borrow.Author.Needs.{needs}
 use Rattle.hashing.specs.Lists.{bits}
-use Rattle.ring.specs.Levels.{levelOf}
+use Rattle.hashing.proofs.Lists.{length-tab}
+use Rattle.ring.specs.Levels.{levelOf, messageBytes}
+use Rattle.ring.specs.Polynomials.{add}
+use Rattle.ring.proofs.Levels.{sizes}
 use Rattle.exchange.specs.Opening.{messageOf, sameError, either, keyFor}
 use Rattle.exchange.specs.decoder.Decoder.{Pair}
-use Rattle.exchange.specs.Scheme.{hashH, hashL, hashK}
+use Rattle.exchange.specs.Scheme.{xorBytes, hashH, hashL, hashK}
 use Rattle.exchange.proofs.Errors.{error-in0, error-in1}
 use Rattle.exchange.proofs.Parts.{front-room}
-use Rattle.exchange.proofs.opening.Laws.{error-tells}
+use Rattle.exchange.proofs.decoder.Laws.{weight-le}
+use Rattle.exchange.proofs.opening.Laws.{nothing-differs}
 use Rattle.exchange.proofs.opening.write_session_key.Statement.{statement}
 use Rattle.exchange.proofs.opening.write_session_key.Tie as tie
 
@@ -22,14 +29,24 @@ message-of-requires : tie.Need-message-of-requires
 message-of-requires c κs =
     (c .before .before .before .before .pre .0 .1, (front-room _ _ _ (c .stored .ensures .0), front-room _ _ _ (c .stored .ensures .1)))
 
-same-error-requires : tie.Need-same-error-requires
-same-error-requires c κs =
-    let stored = c .before .before .before .stored .ensures in (
-      front-room _ _ _ (stored .0),
-      front-room _ _ _ (stored .1),
-      front-room _ _ _ (c .halves-of .ensures .0),
-      front-room _ _ _ (c .halves-of .ensures .1),
-    )
+differences-requires : tie.Need-differences-requires
+differences-requires c κs =
+    let made = c .before .before in
+    let start = made .before .before .before .before .before in
+    let l = levelOf (start .args .level) in
+    let m = made .message-of .result in
+    ((start .pre .1 .0, start .pre .1 .1), (rw (c .words-of .ensures .0) (error-in0 l m), rw (c .words-of .ensures .1) (error-in1 l m)))
+
+chosen-requires : tie.Need-chosen-requires
+unfolding xorBytes
+chosen-requires c κs =
+    let made = c .before .before .before in
+    let start = made .before .before .before .before .before in
+    let bounds = sizes (start .args .level) in
+    let r = levelOf (start .args .level) .r in
+    let few0 = weight-le r (add (bits 64 (start .args .e0)) (bits 64 (c .before .words-of .result .e0))) in
+    let few1 = weight-le r (add (bits 64 (start .args .e1)) (bits 64 (c .before .words-of .result .e1))) in
+    (omega (arith, c .differences .ensures), ap length (made .message-of .ensures) ∙ length-tab messageBytes _, start .pre .0 .0)
 
 message : (c : tie.After-message-of) →
     let given = c .before .before .before .before .before .args in
@@ -37,20 +54,17 @@ message : (c : tie.After-message-of) →
 unfolding messageOf hashL
 message c = rw (c .before .stored .ensures .0, c .before .stored .ensures .1) at (c .message-of .ensures)
 
-own : (c : tie.After-same-error) →
+own : (c : tie.After-differences) →
     let start = c .before .before .before .before .before .before .before .before in
     let l = levelOf (start .args .level) in
-    c .same-error .result
+    eqb (c .differences .result) 0
     ≡ sameError (l .r) (errorIn (start .args .e0) (start .args .e1)) (hashH l (c .before .before .before .message-of .result))
 own c =
-    let again = c .before .halves-of .ensures in
-    let stored = c .before .before .before .before .stored .ensures in
     let start = c .before .before .before .before .before .before .before .before in
     let l = levelOf (start .args .level) in
-    let m = c .before .before .before .message-of .result in
-    error-tells (l .r) {e = errorIn (start .args .e0) (start .args .e1)} {f = hashH l m} (start .pre .1 .0) (start .pre .1 .1) (error-in0 l m) (error-in1 l m)
-    (c .same-error .result)
-    (rw (stored .0, stored .1, again .0, again .1) at (c .same-error .ensures))
+    let again = c .before .words-of .ensures in
+    rw (c .differences .ensures, again .0, again .1)
+    (nothing-differs (l .r) (errorIn (start .args .e0) (start .args .e1)) (hashH l (c .before .before .before .message-of .result)))
 
 returns : tie.Need-returns
 unfolding keyFor
@@ -75,8 +89,8 @@ write-session-key-spec =
     message-of-requires
     (λ c. search needs)
     (λ c κs. search needs)
-    same-error-requires
-    (λ c κs. search needs)
+    differences-requires
+    chosen-requires
     (λ c. search needs)
     (λ c κs. search needs)
     (λ c. search needs)

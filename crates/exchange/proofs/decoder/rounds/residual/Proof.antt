@@ -22,7 +22,7 @@ sparse-requires c κs =
     let size = sizes (start .args .level) in
     let h = start .args .key .h0 in
     let few : d .result ≤ length h = omega (arith, d .ensures, start .pre .0 .0 .0) in (
-      (omega (arith, r .ensures), omega (arith, r .ensures), few),
+      (omega (arith, r .ensures), omega (arith, r .ensures), few, omega (arith, d .ensures)),
       (rw (r .ensures) (start .pre .1 .1 .0), position-below (r .result) (d .result) h few (rw (r .ensures, d .ensures) (start .pre .0 .0 .1))),
     )
 
@@ -34,7 +34,7 @@ sparse-requires-2 c κs =
     let size = sizes (start .args .level) in
     let h = start .args .key .h1 in
     let few : d .result ≤ length h = omega (arith, d .ensures, start .pre .0 .1 .0) in (
-      (omega (arith, r .ensures), omega (arith, r .ensures), few),
+      (omega (arith, r .ensures), omega (arith, r .ensures), few, omega (arith, d .ensures)),
       (rw (r .ensures) (start .pre .1 .1 .1), position-below (r .result) (d .result) h few (rw (r .ensures, d .ensures) (start .pre .0 .1 .1))),
     )
 

@@ -7,8 +7,8 @@ use lib.Seq.{length-take-le, take-at}
 use borrow.Author.Needs.{needs}
 use Rattle.ring.specs.Bytes.{bytesOf}
 use Rattle.ring.proofs.Levels.{sizes}
-use Rattle.exchange.proofs.opening.stored.Statement.{statement}
-use Rattle.exchange.proofs.opening.stored.Tie as tie
+use Rattle.exchange.proofs.error.stored.Statement.{statement}
+use Rattle.exchange.proofs.error.stored.Tie as tie
 
 -- the level's bytes fit
 room0 : (c : tie.After-no-bytes) → c .before .polynomial .result ≤ length (c .no-bytes .result)
