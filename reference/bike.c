@@ -5,11 +5,12 @@
 
 #include "decoder.h"
 #include "keccak.h"
+#include "packing.h"
 #include "ring.h"
 #include "scheme.h"
 #include "wrong.h"
 
-enum form { POLYNOMIAL, CIPHERTEXT, PRIVATE_KEY, SEED, SHORT };
+enum form { POLYNOMIAL, CIPHERTEXT, PRIVATE_KEY, PACKED_KEY, SEED, SHORT };
 
 /* A lent buffer; exactly one of in and out is used. */
 struct lent {
@@ -35,6 +36,7 @@ static size_t bytes_of(const struct level *v, enum form form)
     case POLYNOMIAL: return polynomial_bytes(v);
     case CIPHERTEXT: return ciphertext_bytes(v);
     case PRIVATE_KEY: return private_key_bytes(v);
+    case PACKED_KEY: return packed_key_bytes(v);
     case SEED: return SEED_BYTES;
     default: return SHORT_BYTES;
     }
@@ -45,13 +47,15 @@ static bool length_wrong(const struct level *v, const struct lent *b)
     return wrong(W_AT_LEAST) ? b->n < bytes_of(v, b->form) : b->n != bytes_of(v, b->form);
 }
 
-/* The pad is in the last byte of a polynomial and of a ciphertext's c0. */
+/* The pad is in the last byte of a polynomial, of a ciphertext's c0 and of a packed key. */
 static bool pad_set(const struct level *v, const struct lent *b)
 {
     size_t last = polynomial_bytes(v) - 1;
     uint8_t pad = (uint8_t)(v->r % 8 == 0 ? 0 : 0xff << v->r % 8);
     if (wrong(W_PAD_BIT_3))
         pad = (uint8_t)(1u << v->r % 8);
+    if (b->in != NULL && b->form == PACKED_KEY)
+        return b->n >= packed_key_bytes(v) && packed_pad_set(v, b->in);
     if (b->in == NULL || (b->form != POLYNOMIAL && b->form != CIPHERTEXT))
         return false;
     if (wrong(W_NO_C0_PAD) && b->form == CIPHERTEXT)
@@ -61,10 +65,21 @@ static bool pad_set(const struct level *v, const struct lent *b)
     return b->n > last && (b->in[last] & pad) != 0;
 }
 
+static bool packed_key_bad(const struct level *v, const uint8_t *packed)
+{
+    struct key key = key_of_packed(v, packed);
+    struct level judge = *v;
+    if (wrong(W_UNPACK_LARGE))
+        judge.r = 1u << position_bits(v);
+    return !key_is_good(&judge, &key);
+}
+
 static bool key_bad(const struct level *v, const struct lent *b)
 {
-    if (b->in == NULL || b->form != PRIVATE_KEY || b->n < private_key_bytes(v))
+    if (b->in == NULL || (b->form != PRIVATE_KEY && b->form != PACKED_KEY) || b->n < bytes_of(v, b->form))
         return false;
+    if (b->form == PACKED_KEY)
+        return packed_key_bad(v, b->in);
     struct key key = key_of_bytes(v, b->in);
     return !key_is_good(v, &key);
 }
@@ -87,7 +102,8 @@ static uint32_t refusal(const struct level *v, const struct lent lent[], size_t 
         return 3;
     if (any(length_wrong, v, lent, n))
         return 2;
-    if (wrong(W_FOUR_BEFORE_THREE) && any(key_bad, v, lent, n))
+    bool four_first = wrong(W_FOUR_BEFORE_THREE) || (wrong(W_UNPACK_FOUR_FIRST) && lent[0].form == PACKED_KEY);
+    if (four_first && any(key_bad, v, lent, n))
         return 4;
     if (any(pad_set, v, lent, n))
         return 3;
@@ -308,4 +324,30 @@ uint32_t ref_open(uint32_t level, const uint8_t *key, size_t keyn, const uint8_t
             answer = 6;
     }
     return finish(answer, v, lent, 3);
+}
+
+uint32_t ref_pack_key(uint32_t level, const uint8_t *key, size_t keyn, uint8_t *packed, size_t packedn)
+{
+    const struct level *v = level_of(level);
+    const struct lent lent[] = {input(PRIVATE_KEY, key, keyn), output(PACKED_KEY, packed, packedn)};
+    uint32_t answer = refusal(v, lent, 2);
+    if (answer == 4 && wrong(W_PACK_UNCHECKED))
+        answer = 0;
+    if (answer == 0) {
+        struct key private = key_of_bytes(v, key);
+        key_to_packed(v, &private, packed);
+    }
+    return finish(answer, v, lent, 2);
+}
+
+uint32_t ref_unpack_key(uint32_t level, const uint8_t *packed, size_t packedn, uint8_t *key, size_t keyn)
+{
+    const struct level *v = level_of(level);
+    const struct lent lent[] = {input(PACKED_KEY, packed, packedn), output(PRIVATE_KEY, key, keyn)};
+    uint32_t answer = refusal(v, lent, 2);
+    if (answer == 0) {
+        struct key private = key_of_packed(v, packed);
+        key_to_bytes(v, &private, key);
+    }
+    return finish(answer, v, lent, 2);
 }

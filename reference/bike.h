@@ -1,4 +1,5 @@
-/* The second program's ten entries. A buffer is a pointer and its length; buffers must not overlap.
+/* The second program's entries: document 01's ten, and document 02's. A buffer is a pointer and its length; buffers must
+ * not overlap.
  *
  * Answers: 0 done; 1 level is neither 1 nor 3; 2 a buffer has a wrong length; 3 a pad bit is set; 4 a private key's
  * position is >= r or not rising; 5 no inverse exists; 6 decoding failed; 7 record cut; 8 record of unknown kind;
@@ -34,5 +35,8 @@ uint32_t ref_open(uint32_t level, const uint8_t *key, size_t keyn, const uint8_t
                   uint8_t *k, size_t kn);
 
 uint32_t ref_read_record(const uint8_t *bytes, size_t n, struct ref_record *record);
+
+uint32_t ref_pack_key(uint32_t level, const uint8_t *key, size_t keyn, uint8_t *packed, size_t packedn);
+uint32_t ref_unpack_key(uint32_t level, const uint8_t *packed, size_t packedn, uint8_t *key, size_t keyn);
 
 #endif

@@ -11,6 +11,7 @@ static const struct {
 } shapes[ENTRIES] = {
     [SHAKE256] = {1, 1}, [SHA3_384] = {1, 1}, [PRODUCT] = {2, 1},  [INVERSE] = {1, 1}, [ERROR_OF] = {1, 2},
     [DECODE] = {2, 2},   [MAKE_KEY] = {1, 2}, [WRAP] = {2, 2},     [OPEN] = {2, 1},    [READ_RECORD] = {1, 0},
+    [PACK_KEY] = {1, 1}, [UNPACK_KEY] = {1, 1},
 };
 
 unsigned case_ins(uint32_t entry)
@@ -92,6 +93,8 @@ static uint32_t call(const struct test_case *c, uint8_t *const in[2], uint8_t *c
     case MAKE_KEY: return ref_make_key(c->level, a, an, x, xn, y, yn);
     case WRAP: return ref_wrap(c->level, a, an, b, bn, x, xn, y, yn);
     case OPEN: return ref_open(c->level, a, an, b, bn, x, xn);
+    case PACK_KEY: return ref_pack_key(c->level, a, an, x, xn);
+    case UNPACK_KEY: return ref_unpack_key(c->level, a, an, x, xn);
     default: return ref_read_record(a, an, record);
     }
 }

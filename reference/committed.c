@@ -4,6 +4,7 @@
 
 #include "cases.h"
 #include "generator.h"
+#include "packing.h"
 
 static bool in_full(const struct level *v)
 {
@@ -315,6 +316,80 @@ static void committed_halves(struct source *g, const struct level *v)
     }
 }
 
+static void emit_packing(const struct level *v, const struct key *key)
+{
+    struct test_case c;
+    case_pack_key(&c, v, key);
+    emit(&c);
+    case_unpack_key(&c, v, key);
+    emit(&c);
+}
+
+static void committed_packing(struct source *g, const struct level *v)
+{
+    struct key key = random_key(g, v);
+    emit_packing(v, &key);
+    key.h[0][0] = 0; /* the least position and the largest */
+    key.h[1][v->d - 1] = v->r - 1;
+    emit_packing(v, &key);
+    memcpy(key.h[1], key.h[0], sizeof key.h[0]); /* h1 = h0, and any sigma */
+    memset(key.sigma, 0xff, sizeof key.sigma);
+    emit_packing(v, &key);
+}
+
+static void committed_packed_positions(struct source *g, const struct level *v, uint32_t entry)
+{
+    struct test_case c;
+    ordinary_case(&c, g, entry, v);
+    uint32_t last = v->d - 1, most = (1u << position_bits(v)) - 1;
+    emit_position(c, 0, last, v->r);
+    emit_position(c, 1, last, v->r);
+    emit_position(c, 1, last, most);
+    emit_position(c, 0, 1, get_position(&c, 0, 0)); /* equal */
+    emit_position(c, 1, last, get_position(&c, 1, last - 1) - 1); /* falling */
+    emit_position(c, 1, 0, 0); /* good, below all of h0 */
+}
+
+/* Each wrong length of each buffer, and the length of a key in the other form. */
+static void committed_packed_lengths(struct source *g, const struct level *v, uint32_t entry)
+{
+    struct test_case c;
+    for (unsigned buffer = 0; buffer < 2; buffer++)
+        for (int how = EMPTY; how < BAD_LENGTHS; how++) {
+            ordinary_case(&c, g, entry, v);
+            damage_length(&c, g, buffer, (enum bad_length)how);
+            emit(&c);
+        }
+    ordinary_case(&c, g, entry, v);
+    c.out[0] = c.in[0].n;
+    emit(&c);
+    ordinary_case(&c, g, entry, v);
+    c.in[0].n = c.out[0];
+    emit(&c);
+}
+
+/* Every pad bit; and refusals at once, the smallest number first. */
+static void committed_packed_pads(struct source *g, const struct level *v)
+{
+    struct test_case c;
+    for (uint32_t bit = 0; bit < packed_pad_bits(v); bit++)
+        emit_pad(g, v, UNPACK_KEY, 0, 1u << bit);
+    ordinary_case(&c, g, UNPACK_KEY, v);
+    set_position(&c, 0, 0, v->r);
+    damage_pad(&c, 0, 1);
+    emit(&c); /* 3 before 4 */
+    c.out[0]++;
+    emit(&c); /* 2 before 3 */
+    c.level = 2;
+    emit(&c); /* 1 before all */
+    ordinary_case(&c, g, PACK_KEY, v);
+    set_position(&c, 0, 0, v->r);
+    c.out[0]--;
+    emit(&c); /* 2 before 4 */
+    c.level += 256;
+    emit(&c);
+}
+
 /* What is added comes last, so that the cases before it keep their bytes and their ordinals. */
 void committed(void)
 {
@@ -338,5 +413,14 @@ void committed(void)
         const struct level *v = level_of(level);
         committed_decoding(v, telling_threshold, sizeof telling_threshold / sizeof telling_threshold[0]);
         committed_halves(&g, v);
+    }
+    for (uint32_t level = 1; level <= 3; level += 2) {
+        const struct level *v = level_of(level);
+        committed_packing(&g, v);
+        committed_packed_pads(&g, v);
+        for (uint32_t entry = PACK_KEY; entry <= UNPACK_KEY; entry++) {
+            committed_packed_positions(&g, v, entry);
+            committed_packed_lengths(&g, v, entry);
+        }
     }
 }

@@ -4,6 +4,8 @@
 #include <stdio.h>
 #include <string.h>
 
+#include "packing.h"
+
 struct source source_of(const char *label)
 {
     struct source g;
@@ -211,6 +213,21 @@ void case_open(struct test_case *c, const struct level *v, const struct key *key
     c->out[0] = SHORT_BYTES;
 }
 
+void case_pack_key(struct test_case *c, const struct level *v, const struct key *key)
+{
+    start_case(c, PACK_KEY, v->number);
+    put_key(&c->in[0], v, key);
+    c->out[0] = packed_key_bytes(v);
+}
+
+void case_unpack_key(struct test_case *c, const struct level *v, const struct key *key)
+{
+    start_case(c, UNPACK_KEY, v->number);
+    c->in[0].n = packed_key_bytes(v);
+    key_to_packed(v, key, c->in[0].bytes);
+    c->out[0] = private_key_bytes(v);
+}
+
 void case_record(struct test_case *c, struct source *g, uint32_t body, uint32_t kind, size_t n)
 {
     start_case(c, READ_RECORD, 0);
@@ -310,10 +327,15 @@ void opening_case(struct test_case *c, struct source *g, const struct level *v, 
     case_open(c, v, key, ciphertext);
 }
 
-static void honest_opening(struct test_case *c, struct source *g, const struct level *v)
+/* An ordinary case of an entry that takes a private key. */
+static void key_case(struct test_case *c, struct source *g, uint32_t entry, const struct level *v)
 {
     struct key key = random_key(g, v);
-    opening_case(c, g, v, &key, HONEST, 0);
+    switch (entry) {
+    case PACK_KEY: case_pack_key(c, v, &key); break;
+    case UNPACK_KEY: case_unpack_key(c, v, &key); break;
+    default: opening_case(c, g, v, &key, HONEST, 0); break;
+    }
 }
 
 void ordinary_case(struct test_case *c, struct source *g, uint32_t entry, const struct level *v)
@@ -328,7 +350,7 @@ void ordinary_case(struct test_case *c, struct source *g, uint32_t entry, const 
     case DECODE: case_decode_numbered(c, v, PLAIN, v->t, source_below(g, UINT32_MAX)); break;
     case MAKE_KEY: case_make_key(c, v, seed); break;
     case WRAP: case_wrap(c, v, &a, seed); break;
-    default: honest_opening(c, g, v); break;
+    default: key_case(c, g, entry, v); break;
     }
 }
 
@@ -347,6 +369,8 @@ static size_t other_length(uint32_t level, size_t n)
         return ciphertext_bytes(other);
     if (v != NULL && n == private_key_bytes(v))
         return private_key_bytes(other);
+    if (v != NULL && n == packed_key_bytes(v))
+        return packed_key_bytes(other);
     return n == 32 ? 64 : 32;
 }
 
@@ -370,7 +394,8 @@ bool has_pad(const struct test_case *c, unsigned input)
     switch (c->entry) {
     case PRODUCT: return true;
     case INVERSE:
-    case WRAP: return input == 0;
+    case WRAP:
+    case UNPACK_KEY: return input == 0;
     case DECODE:
     case OPEN: return input == 1;
     default: return false;
@@ -380,24 +405,28 @@ bool has_pad(const struct test_case *c, unsigned input)
 void damage_pad(struct test_case *c, unsigned input, uint32_t bits)
 {
     const struct level *v = level_of(c->level);
-    c->in[input].bytes[polynomial_bytes(v) - 1] |= (uint8_t)(bits << v->r % 8);
+    bool packed = c->entry == UNPACK_KEY;
+    size_t last = (packed ? packed_key_bytes(v) : polynomial_bytes(v)) - 1;
+    c->in[input].bytes[last] |= (uint8_t)(bits << (packed ? 8 - packed_pad_bits(v) : v->r % 8));
 }
 
 bool has_key(const struct test_case *c)
 {
-    return c->entry == DECODE || c->entry == OPEN;
+    return c->entry == DECODE || c->entry == OPEN || c->entry == PACK_KEY || c->entry == UNPACK_KEY;
 }
 
 void set_position(struct test_case *c, int half, uint32_t index, uint32_t position)
 {
     const struct level *v = level_of(c->level);
-    uint8_t *bytes = c->in[0].bytes + 2 * (half * v->d + index);
-    bytes[0] = (uint8_t)position;
-    bytes[1] = (uint8_t)(position >> 8);
+    uint8_t *bytes = c->in[0].bytes;
+    struct key key = (c->entry == UNPACK_KEY ? key_of_packed : key_of_bytes)(v, bytes);
+    key.h[half][index] = position;
+    (c->entry == UNPACK_KEY ? key_to_packed : key_to_bytes)(v, &key, bytes);
 }
 
 uint32_t get_position(const struct test_case *c, int half, uint32_t index)
 {
     const struct level *v = level_of(c->level);
-    return little_endian(c->in[0].bytes + 2 * (half * v->d + index), 2);
+    struct key key = (c->entry == UNPACK_KEY ? key_of_packed : key_of_bytes)(v, c->in[0].bytes);
+    return key.h[half][index];
 }

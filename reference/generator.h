@@ -47,6 +47,8 @@ void case_decode(struct test_case *c, const struct level *v, const struct key *k
 void case_make_key(struct test_case *c, const struct level *v, const uint8_t *seed);
 void case_wrap(struct test_case *c, const struct level *v, const struct poly *h, const uint8_t *m);
 void case_open(struct test_case *c, const struct level *v, const struct key *key, const uint8_t *ciphertext);
+void case_pack_key(struct test_case *c, const struct level *v, const struct key *key);
+void case_unpack_key(struct test_case *c, const struct level *v, const struct key *key);
 /* A record whose head says `body` and `kind`, followed by n random bytes. */
 void case_record(struct test_case *c, struct source *g, uint32_t body, uint32_t kind, size_t n);
 size_t thing_bytes(const struct level *v, uint32_t thing);

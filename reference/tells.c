@@ -12,7 +12,7 @@ enum class { LEVEL_1, LEVEL_3, NO_LEVEL, CLASSES };
 
 static enum class class_of(const struct test_case *c)
 {
-    bool takes_level = c->entry >= PRODUCT && c->entry <= OPEN;
+    bool takes_level = c->entry >= PRODUCT && c->entry != READ_RECORD;
     return takes_level && c->level == 1 ? LEVEL_1 : takes_level && c->level == 3 ? LEVEL_3 : NO_LEVEL;
 }
 

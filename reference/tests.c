@@ -7,6 +7,7 @@
 #include "decoder.h"
 #include "generator.h"
 #include "keccak.h"
+#include "packing.h"
 #include "ring.h"
 #include "scheme.h"
 
@@ -238,6 +239,21 @@ static void ring_laws(const struct level *v)
     check(!poly_inverse(v->r, &ones, &inverse), "all ones has no inverse");
 }
 
+/* Document 02's lengths, and that a packed key unpacks to the same key. */
+static void packed_keys(uint32_t level, size_t bytes, uint32_t pad)
+{
+    const struct level *v = level_of(level);
+    struct source g = source_of("packed keys");
+    struct key key = random_key(&g, v);
+    uint8_t priv[4 * D_MAX + SHORT_BYTES], back[4 * D_MAX + SHORT_BYTES], packed[4 * D_MAX + SHORT_BYTES];
+    size_t privn = private_key_bytes(v);
+    check(packed_key_bytes(v) == bytes && packed_pad_bits(v) == pad, "packed length and pad bits");
+    key_to_bytes(v, &key, priv);
+    check(ref_pack_key(level, priv, privn, packed, bytes) == 0, "key packed");
+    check(ref_unpack_key(level, packed, bytes, back, privn) == 0, "key unpacked");
+    check(memcmp(priv, back, privn) == 0, "unpacking gives the key that was packed");
+}
+
 /* A key is made, a message wrapped and opened; a damaged ciphertext gives another key and the same answer. */
 static void round_trip(const struct level *v, unsigned number)
 {
@@ -276,6 +292,8 @@ int main(int argc, char **argv)
         for (unsigned number = 0; number < 5; number++)
             round_trip(level_of(level), number);
     }
+    packed_keys(1, 281, 4);
+    packed_keys(3, 419, 6);
     if (argc == 3)
         published_vectors(argv[1], argv[2]);
     printf("%lu checks, %lu failed\n", checks, failures);

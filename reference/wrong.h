@@ -88,7 +88,18 @@
     X(OPEN_E0, "opening compares e0 alone") \
     X(OPEN_E1, "opening compares e1 alone") \
     X(SLOPE, "threshold: a slope one higher") \
-    X(LEAST, "threshold: a lower bound one lower")
+    X(LEAST, "threshold: a lower bound one lower") \
+    X(PACK_HIGH_FIRST, "packed key: a position's highest bit first") \
+    X(PACK_BYTE_HIGH, "packed key: a byte filled from its highest bit") \
+    X(PACK_16, "packed key: 16 bits a position") \
+    X(PACK_NEW_BYTE, "packed key: each half begun at a new byte") \
+    X(PACK_SIGMA_LAST, "packed key: sigma last") \
+    X(PACK_H1_FIRST, "packed key: h1 before h0") \
+    X(PACK_UNCHECKED, "packing: a bad position is packed") \
+    X(UNPACK_NO_PAD, "unpacking: the pad is not looked at") \
+    X(UNPACK_LAST_PAD, "unpacking: only the last pad bit is looked at") \
+    X(UNPACK_FOUR_FIRST, "unpacking: 4 before 3") \
+    X(UNPACK_LARGE, "unpacking: positions from r on are taken")
 
 #define WRONG_NAME(name, text) W_##name,
 enum { W_NONE, WRONG_READINGS(WRONG_NAME) W_COUNT };
