@@ -1,4 +1,4 @@
-/* The library and the second program in one process, on random and on damaged input. */
+/* The libraries and the second program in one process, on random and on damaged input. */
 #include <stdbool.h>
 #include <stdio.h>
 #include <string.h>
@@ -52,7 +52,9 @@ static uint32_t call(const struct doors *doors, const struct test_case *c, struc
     switch (c->entry) {
     case MAKE_KEY: return doors->make_key(c->level, a, an, x, xn, y, yn);
     case WRAP: return doors->wrap(c->level, a, an, b, bn, x, xn, y, yn);
-    default: return doors->open(c->level, a, an, b, bn, x, xn);
+    case OPEN: return doors->open(c->level, a, an, b, bn, x, xn);
+    case PACK_KEY: return doors->pack_key(c->level, a, an, x, xn);
+    default: return doors->unpack_key(c->level, a, an, x, xn);
     }
 }
 
@@ -82,6 +84,14 @@ static const char *difference(const struct test_case *c, struct outcome *got, st
     return NULL;
 }
 
+/* The entries that have a door. */
+static const struct {
+    uint32_t entry;
+    const char *calls;
+} tried[] = {{MAKE_KEY, "key makings"}, {WRAP, "wrappings"}, {OPEN, "openings"}, {PACK_KEY, "packings"},
+             {UNPACK_KEY, "unpackings"}};
+enum { TRIED = sizeof tried / sizeof tried[0] };
+
 /* Calls made and calls refused, by entry. */
 struct counts {
     unsigned long made[ENTRIES], refused;
@@ -93,7 +103,7 @@ static bool compare(struct source *g, unsigned long count, int reading, struct c
     static struct test_case c;
     static struct outcome got, wanted;
     for (unsigned long i = 1; i <= count; i++) {
-        random_case_of(&c, g, MAKE_KEY + source_below(g, 3));
+        random_case_of(&c, g, tried[source_below(g, TRIED)].entry);
         run(&library, &c, &got);
         ref_wrong = reading;
         run(&reference, &c, &wanted);
@@ -137,7 +147,9 @@ int main(int argc, char **argv)
     struct source g = source_of(seed);
     if (!compare(&g, count, reading, &counts))
         return 1;
-    printf("%lu agree: %lu key makings, %lu wrappings, %lu openings; %lu of them refusals\n", count,
-           counts.made[MAKE_KEY], counts.made[WRAP], counts.made[OPEN], counts.refused);
+    printf("%lu agree:", count);
+    for (int i = 0; i < TRIED; i++)
+        printf(" %lu %s%s", counts.made[tried[i].entry], tried[i].calls, i + 1 < TRIED ? "," : "");
+    printf("; %lu of them refusals\n", counts.refused);
     return 0;
 }

@@ -1,7 +1,7 @@
 #include "doors.h"
 
-#include "../include/bike.h"
+#include "../include/bike_pack.h"
 #include "../reference/bike.h"
 
-const struct doors library = {bike_make_key, bike_wrap, bike_open};
-const struct doors reference = {ref_make_key, ref_wrap, ref_open};
+const struct doors library = {bike_make_key, bike_wrap, bike_open, bike_pack_key, bike_unpack_key};
+const struct doors reference = {ref_make_key, ref_wrap, ref_open, ref_pack_key, ref_unpack_key};

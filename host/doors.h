@@ -1,4 +1,4 @@
-/* The three doors, of the library and of the second program, under one set of names. */
+/* The doors of the libraries and of the second program, under one set of names. */
 #ifndef HOST_DOORS_H
 #define HOST_DOORS_H
 
@@ -12,6 +12,8 @@ struct doors {
                      uint8_t *c, size_t cn, uint8_t *k, size_t kn);
     uint32_t (*open)(uint32_t level, const uint8_t *priv, size_t privn, const uint8_t *c, size_t cn,
                      uint8_t *k, size_t kn);
+    uint32_t (*pack_key)(uint32_t level, const uint8_t *priv, size_t privn, uint8_t *packed, size_t packedn);
+    uint32_t (*unpack_key)(uint32_t level, const uint8_t *packed, size_t packedn, uint8_t *priv, size_t privn);
 };
 
 extern const struct doors library, reference;

@@ -1,0 +1,32 @@
+/* Private keys in a shorter form, for a controller's tag, as the archive libpacking.a has it. Link it beside
+ * libexchange.a: opening takes the form of bike.h, so a controller unpacks the key that it reads from its tag.
+ *
+ * Buffers, answers and zeros after a refusal are as bike.h says. Both forms are secret. Each private key has one packed
+ * form, and unpacking it gives the same private key. */
+#ifndef BIKE_PACK_H
+#define BIKE_PACK_H
+
+#include "bike.h"
+
+#ifdef __cplusplus
+extern "C" {
+#endif
+
+enum {
+    BIKE_LEVEL_1_PACKED_KEY_BYTES = 281,
+    BIKE_LEVEL_3_PACKED_KEY_BYTES = 419
+};
+
+/* Packs a private key. Gives 0, 1, 2 or 4. */
+uint32_t bike_pack_key(uint32_t level, const uint8_t *private_key, size_t private_key_bytes,
+                       uint8_t *packed_key, size_t packed_key_bytes);
+
+/* Unpacks one. Gives 0, 1, 2, 3 or 4; 3 if one of the 4 (6) upper bits of its last byte is set. */
+uint32_t bike_unpack_key(uint32_t level, const uint8_t *packed_key, size_t packed_key_bytes,
+                         uint8_t *private_key, size_t private_key_bytes);
+
+#ifdef __cplusplus
+}
+#endif
+
+#endif
