@@ -10,7 +10,7 @@ use lib.Dec.{eqb, leb, ltb}
 use lib.ListN.{getD}
 use Rattle.ring.specs.Chain.{halvings, top}
 use Rattle.ring.specs.inner.Sizes.{mostD, mostT, wordBits}
-use Rattle.ring.specs.Levels.{Level, level1, level3, table, rowIn, levelOf, polyBytes, polyWords, padBits, ciphertextBytes, privateBytes, masked}
+use Rattle.ring.specs.Levels.{Level, level1, level3, table, rowIn, levelOf, polyBytes, polyWords, padBits, positionBits, ciphertextBytes, privateBytes, masked}
 use Rattle.ring.proofs.Bools.{both-true}
 
 -- the sizes of a row, for the code that adds and multiplies them
@@ -29,12 +29,18 @@ pub record Bounds (l : Level) (s : ℕ) : Type 0 where
   pub least : 3 ≤ l .least
   pub most : l .least < 256
 
+-- a position has its room in the binary digits of r, and these theirs in two bytes
+pub record Width (r : ℕ) : Type 0 where
+  pub holds : r ≤ 2 ^ positionBits r
+  pub most : positionBits r ≤ 16
+
 -- all that proofs use of a row. The inverse rests on `cycle`: the powers of 2 return to 1 after r - 1 steps
 pub record Facts (l : Level) : Type 0 where
   pub odd : l .r % 2 ≡ 1
   pub cycle : 2 ^ (l .r - 1) % l .r ≡ 1
   pub sizes : Sizes (l .r) (l .d) (l .t)
   pub bounds : Bounds l (l .r)
+  pub width : Width (l .r)
 
 -- and the tests that show it
 tests : Level → List Bool
@@ -42,7 +48,8 @@ tests l =
     let sum = l .slope * l .r + l .offset in
     eqb (l .r % 2) 1 ∷ eqb (2 ^ (l .r - 1) % l .r) 1
     ∷ ltb mostT (l .r) ∷ ltb (l .r) wordBits ∷ leb (l .d) mostD ∷ ltb 0 (l .t) ∷ leb (l .t) mostT
-    ∷ ltb sum (2 ^ 40) ∷ ltb 0 (l .divisor) ∷ ltb (sum / l .divisor) 256 ∷ leb 3 (l .least) ∷ ltb (l .least) 256 ∷ []
+    ∷ ltb sum (2 ^ 40) ∷ ltb 0 (l .divisor) ∷ ltb (sum / l .divisor) 256 ∷ leb 3 (l .least) ∷ ltb (l .least) 256
+    ∷ leb (l .r) (2 ^ positionBits (l .r)) ∷ leb (positionBits (l .r)) 16 ∷ []
 
 every : List Bool → Bool
 every [] = true
@@ -78,11 +85,12 @@ fits-facts l e =
         least = leb-true _ _ (at 10);
         most = ltb-true _ _ (at 11);
       };
+      width = record { holds = leb-true _ _ (at 12); most = leb-true _ _ (at 13) };
     }
 
 -- the whole table, and with it the row of every number
 table-fits : every (map fits table) ≡ true
-unfolding every fits tests table level1 level3
+unfolding every fits tests table level1 level3 top halvings
 table-fits = refl
 
 row-fits : (rows : List Level) (level : ℕ) → every (map fits rows) ≡ true → fits level1 ≡ true → fits (rowIn rows level) ≡ true
@@ -117,6 +125,9 @@ r-small level = sizes level .r-most
 
 pub r-cycle : (level : ℕ) → 2 ^ (levelOf level .r - 1) % levelOf level .r ≡ 1
 r-cycle level = facts level .cycle
+
+pub width : (level : ℕ) → Width (levelOf level .r)
+width level = facts level .width
 
 -- a residual's weight is at most r, and what holds of r holds of it
 pub bounds : (level s : ℕ) → s ≤ levelOf level .r → Bounds (levelOf level) s

@@ -1,9 +1,10 @@
 -- "Numbers of the two levels": a row for each level, and all that follows from a row. Assumes nothing.
 use mathlib.Core.Bool.{Bool, true, false}
 use mathlib.Core.List.{List, [], _∷_, map}
-use Prim.Native.Nat.{ℕ, _+_, _*_, _-_, _/_}
+use Prim.Native.Nat.{ℕ, suc, _+_, _*_, _-_, _/_}
 use lib.Dec.{eqb}
 use Rattle.ring.specs.Bytes.{byteLength}
+use Rattle.ring.specs.Chain.{top}
 use Rattle.ring.specs.Polynomials.{listed}
 
 pub record Level : Type 0 where
@@ -62,6 +63,10 @@ polyWords l = (l .r + 63) / 64
 
 abbrev pub padBits : Level → ℕ
 padBits l = 8 * polyBytes l - l .r
+
+-- the binary digits of r, which hold every position below r
+abbrev pub positionBits : ℕ → ℕ
+positionBits r = suc (top r)
 
 -- "Ciphertext: c0, then 32 bytes c1"
 abbrev pub ciphertextBytes : Level → ℕ

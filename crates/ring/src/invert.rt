@@ -34,7 +34,7 @@ fn climb(r: usize, a: [u64; WORDS], x: [u64; WORDS], k: usize, digit: usize) -> 
 }
 
 // The place of the highest binary digit of u.
-fn top(u: usize) -> usize
+pub fn top(u: usize) -> usize
     requires { ⌜ 0 < u ⌝ }
     ensures { λ n. ⌜ (n < 64) × (n ≡ Chain.top u) ⌝ }
 {

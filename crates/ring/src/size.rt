@@ -1,7 +1,8 @@
 // The numbers of a level that lengths and loops go by.
+use crate::invert::top;
 use crate::level::level_of;
 ghost use mathlib.Core.Path.{_≡_};
-ghost use Rattle.ring.specs.Levels.{levelOf, polyBytes, ciphertextBytes, privateBytes};
+ghost use Rattle.ring.specs.Levels.{levelOf, polyBytes, positionBits, ciphertextBytes, privateBytes};
 
 // The largest sizes of the table: a polynomial's words of 64 bits, the weight of a half of a private key, that of an error.
 pub const WORDS: usize = 386;
@@ -42,6 +43,13 @@ pub fn polynomial(level: u32) -> usize
     ensures { λ n. ⌜ n ≡ polyBytes (levelOf level) ⌝ }
 {
     (block(level) + 7) / 8
+}
+
+// The bits of a position: the binary digits of r.
+pub fn position_bits(level: u32) -> usize
+    ensures { λ n. ⌜ n ≡ positionBits (levelOf level .r) ⌝ }
+{
+    top(block(level)) + 1
 }
 
 pub fn ciphertext(level: u32) -> usize
