@@ -11,7 +11,7 @@ use libc::STDOUT_FILENO;
 // How many inputs and outputs an entry has; no inputs where the number is no entry's.
 fn inputs(number: u8) -> u8 {
     match number {
-        1 | 2 | 4 | 5 | 7 | 10 => 1,
+        1 | 2 | 4 | 5 | 7 | 10 | 11 | 12 => 1,
         3 | 6 | 8 | 9 => 2,
         _ => 0,
     }
@@ -19,7 +19,7 @@ fn inputs(number: u8) -> u8 {
 
 fn outputs(number: u8) -> u8 {
     match number {
-        1 | 2 | 3 | 4 | 9 => 1,
+        1 | 2 | 3 | 4 | 9 | 11 | 12 => 1,
         5 | 6 | 7 | 8 => 2,
         _ => 0,
     }
@@ -35,7 +35,9 @@ fn called(number: u8, level: u32, a: &[u8], b: &[u8], out0: &mut [u8], out1: &mu
         6 => exchange::decode(level, a, b, out0, out1),
         7 => exchange::make_key(level, a, out0, out1),
         8 => exchange::wrap(level, a, b, out0, out1),
-        _ => exchange::open(level, a, b, out0),
+        9 => exchange::open(level, a, b, out0),
+        11 => packing::pack(level, a, out0),
+        _ => packing::unpack(level, a, out0),
     }
 }
 
