@@ -24,13 +24,13 @@ use Rattle.exchange.specs.Scheme.{twoBytes}
 use Rattle.exchange.specs.decoder.PrivateKey.{positions0, positions1, tail, risingFrom, goodKey}
 use Rattle.exchange.proofs.Making.{numbers-back, length-twoBytes}
 use Rattle.exchange.proofs.Streams.{below-append, below-drop}
-use Rattle.packing.specs.Packing.{rowOf, inRow, positionsIn, packedBits, packedBytes, packed, rowPart, unpacked, padded}
+use Rattle.packing.specs.Packing.{rowOf, inRow, positionsIn, positions, packedBits, packedBytes, packed, rowPart, unpacked, padded}
 use Rattle.packing.proofs.Rows.{inRow-length, in-rowOf, rowOf-in, rowOf-pad}
 use Rattle.packing.proofs.TwoBytes.{two-again}
 
 -- the positions of both halves are read one after another
-pub positions-both : (l : Level) (key : List ℕ) → positions0 l key ++ positions1 l key ≡ numbers 2 (positionsIn l) key
-unfolding positions0 positions1 numbers
+pub positions-both : (l : Level) (key : List ℕ) → positions l key ≡ numbers 2 (positionsIn l) key
+unfolding positions positions0 positions1 numbers
 positions-both l key =
     sym
     (tab-append (l .d) (l .d) (λ i. littleEndian (take 2 (drop (2 * i) key)))
@@ -61,7 +61,7 @@ row-small level =
     omega (arith, sizes level)
 
 module _ (l : Level) where
-  positions-length : (key : List ℕ) → length (positions0 l key ++ positions1 l key) ≡ positionsIn l
+  positions-length : (key : List ℕ) → length (positions l key) ≡ positionsIn l
   positions-length key = ap length (positions-both l key) ∙ numbers-length 2 (positionsIn l) key
 
   tail-length : (key : List ℕ) → length key ≡ privateBytes l → length (tail l key) ≡ tailBytes
@@ -74,19 +74,19 @@ module _ (l : Level) where
       length-append (tail l key) _ ∙ ap₂ _+_ (tail-length key long) (bytesOf-length (packedBits l) _)
 
   packed-row : (key : List ℕ) → length key ≡ privateBytes l
-      → rowPart (packed l key) ≡ rowOf (positionBits (l .r)) (positionsIn l) (positions0 l key ++ positions1 l key)
+      → rowPart (packed l key) ≡ rowOf (positionBits (l .r)) (positionsIn l) (positions l key)
   unfolding packed
   packed-row key long = drop-at (tail l key) _ tailBytes (tail-length key long)
 
   pub packed-pad : (key : List ℕ) → length key ≡ privateBytes l → padded l (packed l key) ≡ false
   packed-pad key long =
       ap (padSet (packedBits l)) (packed-row key long)
-      ∙ rowOf-pad (positionBits (l .r)) (positionsIn l) (omega arith) (positions0 l key ++ positions1 l key) (positions-length key)
+      ∙ rowOf-pad (positionBits (l .r)) (positionsIn l) (omega arith) (positions l key) (positions-length key)
 
   -- read after written
   good-below : l .r ≤ 2 ^ positionBits (l .r) → (key : List ℕ) → goodKey l key ≡ true
-      → Below (positionBits (l .r)) (positions0 l key ++ positions1 l key)
-  unfolding goodKey
+      → Below (positionBits (l .r)) (positions l key)
+  unfolding goodKey positions
   good-below room key good =
       let rise = both-true _ _ good in
       below-append (positionBits (l .r)) (positions0 l key) (positions1 l key)
@@ -97,14 +97,13 @@ module _ (l : Level) where
       → unpacked l (packed l key) ≡ key
   unfolding unpacked packed
   unpacked-packed room key bytes good =
-      let list = positions0 l key ++ positions1 l key in
-      let row = rowOf (positionBits (l .r)) (positionsIn l) list in
+      let row = rowOf (positionBits (l .r)) (positionsIn l) (positions l key) in
       let size = bytes .size in
       let long = tail-length key size in
       rw (
         drop-at (tail l key) row tailBytes long,
         take-at (tail l key) row tailBytes long,
-        in-rowOf (positionBits (l .r)) (positionsIn l) (omega arith) list (positions-length key) (good-below room key good),
+        in-rowOf (positionBits (l .r)) (positionsIn l) (omega arith) (positions l key) (positions-length key) (good-below room key good),
         positions-both l key,
         two-again (positionsIn l) key (bytes .small) (omega arith),
       )

@@ -1,6 +1,6 @@
 -- What the code writes, in the words of the definitions. Assumes nothing.
 use mathlib.Core.Path.{_≡_}
-use mathlib.Core.List.{List, _++_}
+use mathlib.Core.List.{List}
 use Prim.Native.Nat.{ℕ, _*_, _≤_}
 use native.Mathlib.Nat.{lt-of-lt-of-le}
 use native.Mathlib.Omega.{arith}
@@ -10,8 +10,7 @@ use Rattle.ring.specs.Bytes.{listOf, byteLength, bytesOf}
 use Rattle.ring.specs.Levels.{Level, positionBits}
 use Rattle.ring.proofs.Layouts.{Below}
 use Rattle.exchange.specs.Scheme.{twoBytes}
-use Rattle.exchange.specs.decoder.PrivateKey.{positions0, positions1}
-use Rattle.packing.specs.Packing.{rowOf, inRow, positionsIn, packedBits}
+use Rattle.packing.specs.Packing.{rowOf, inRow, positionsIn, positions, packedBits}
 use Rattle.packing.proofs.Keys.{positions-both}
 use Rattle.packing.proofs.Rows.{inRow-length, inRow-below}
 use Rattle.packing.proofs.TwoBytes.{numbers-row, twoBytes-row}
@@ -19,7 +18,7 @@ use Rattle.packing.proofs.TwoBytes.{numbers-row, twoBytes-row}
 module _ (l : Level) (size : ℕ) {out : List ℕ} where
   pub packed-row-is : (key : List ℕ) → Below 8 key → size ≡ byteLength (packedBits l)
       → out ≡ listOf 8 size (bits (positionBits (l .r)) (inRow 16 (positionsIn l) key))
-      → out ≡ rowOf (positionBits (l .r)) (positionsIn l) (positions0 l key ++ positions1 l key)
+      → out ≡ rowOf (positionBits (l .r)) (positionsIn l) (positions l key)
   unfolding rowOf bytesOf
   packed-row-is key small long is = rw (positions-both l key, numbers-row (positionsIn l) key small, ← long) is
 

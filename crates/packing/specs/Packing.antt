@@ -20,6 +20,9 @@ inRow w n bytes = listOf w n (bits 8 bytes)
 abbrev pub positionsIn : Level → ℕ
 positionsIn l = l .d + l .d
 
+unfoldable pub positions : Level → List ℕ → List ℕ
+positions l key = positions0 l key ++ positions1 l key
+
 abbrev pub packedBits : Level → ℕ
 packedBits l = positionsIn l * positionBits (l .r)
 
@@ -28,7 +31,7 @@ packedBytes l = tailBytes + byteLength (packedBits l)
 
 -- the tail of the key, sigma, then the row
 unfoldable pub packed : Level → List ℕ → List ℕ
-packed l key = tail l key ++ rowOf (positionBits (l .r)) (positionsIn l) (positions0 l key ++ positions1 l key)
+packed l key = tail l key ++ rowOf (positionBits (l .r)) (positionsIn l) (positions l key)
 
 abbrev pub rowPart : List ℕ → List ℕ
 rowPart bytes = drop tailBytes bytes
