@@ -1,5 +1,5 @@
--- "Reading what was written gives the same private key, and each key has one packed form": of what packing and unpacking promise.
--- Assumes nothing.
+-- "Reading what was written gives the same private key, and each key has one packed form": of what packing and
+-- unpacking promise. Assumes nothing.
 use mathlib.Core.Path.{_≡_, refl, sym, ap, _∙_}
 use mathlib.Core.Bool.{true, not}
 use mathlib.Core.List.{List, [], _∷_}

@@ -1,4 +1,5 @@
--- "A packed form ..: sigma first, then h0's positions and h1's, low bit first with no gaps, zero bits to the byte's end." Assumes nothing.
+-- "A packed form ..: sigma first, then h0's positions and h1's, low bit first with no gaps, zero bits to the byte's
+-- end." Assumes nothing.
 use mathlib.Core.Bool.{Bool}
 use mathlib.Core.List.{List, _++_}
 use Prim.Native.Nat.{ℕ, _+_, _*_}
@@ -9,7 +10,8 @@ use Rattle.ring.specs.Levels.{Level, tailBytes, positionBits}
 use Rattle.exchange.specs.decoder.PrivateKey.{positions0, positions1, tail}
 use Rattle.exchange.specs.Scheme.{twoBytes}
 
--- a row of n numbers of w bits each: bit k of number i is bit i w + k of the row, which lies in bytes as a polynomial does
+-- a row of n numbers of w bits each: bit k of number i is bit i w + k of the row, and the row lies in bytes as a
+-- polynomial does
 unfoldable pub rowOf : ℕ → ℕ → List ℕ → List ℕ
 rowOf w n numbers = bytesOf (n * w) (bits w numbers)
 

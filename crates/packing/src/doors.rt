@@ -1,4 +1,5 @@
-// The doors that C calls, on a level and byte slices: each slice is a pointer and a length. A door keeps its entry's promise.
+// The doors that C calls, on a level and byte slices: each slice is a pointer and a length. A door keeps its entry's
+// promise.
 ghost use lib.ListN.{length};
 ghost use Rattle.packing.specs.Promises.{PackPromise, UnpackPromise};
 

@@ -1,4 +1,5 @@
-// What each entry refuses before anything is written, the first that applies, or 0. An output comes in by its actual length, its room.
+// What each entry refuses before anything is written, the first that applies, or 0. An output comes in by its actual
+// length, its room.
 use crate::size::packed_bits;
 use crate::size::packed_key;
 use exchange::decoder::is_good;

@@ -1,4 +1,5 @@
-// Private keys in a shorter form, for a controller's tag: the tail first, then the positions, each with the binary digits of r.
+// Private keys in a shorter form, for a controller's tag: the tail first, then the positions, each with the binary
+// digits of r.
 pub mod doors;
 pub mod judge;
 pub mod row;

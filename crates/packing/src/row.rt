@@ -1,5 +1,5 @@
-// A row of numbers of one width, laid out anew with another: a position has two bytes in a private key, and the binary digits of r in a
-// packed one. Packing and unpacking are one function.
+// A row of numbers of one width, laid out anew with another: a position has two bytes in a private key, and the binary
+// digits of r in a packed one. Packing and unpacking are one function.
 ghost use mathlib.Core.Path.{_≡_};
 ghost use Prim.Native.Nat.{_+_, _*_, _≤_, _<_};
 ghost use lib.ListN.{length};
@@ -18,8 +18,8 @@ fn bit(bytes: &[u8], n: usize) -> u8
     (bytes[n / 8] >> (n % 8)) % 2
 }
 
-// Bit n of the row with `to` bits a number, of the `count` numbers with `from` bits each: 0 after the last number, and where a number has
-// fewer bits.
+// Bit n of the row with `to` bits a number, of the `count` numbers with `from` bits each: 0 after the last number, and
+// where a number has fewer bits.
 fn bit_at(bytes: &[u8], count: usize, from: usize, to: usize, n: usize) -> u8
     requires { ⌜ Widths count from to (now bytes) ⌝ }
     ensures { λ b. ⌜ b ≡ Polynomials.bit (bits to (inRow from count (now (bytes .entry))) n) ⌝ }

@@ -1,4 +1,4 @@
--- `unpacking` goes down the column of unpacking, as far as it shows before the key is unpacked; the row follows the tail.
+-- `unpacking` goes down the column, as far as it shows before the key is unpacked; the row follows the tail.
 use mathlib.Core.Path.{_≡_, sym, ap, _∙_}
 use native.Mathlib.Omega.{arith}
 use lib.ListN.{length, length-drop}
