@@ -10,7 +10,9 @@
 #include "scheme.h"
 #include "wrong.h"
 
-enum form { POLYNOMIAL, CIPHERTEXT, PRIVATE_KEY, PACKED_KEY, SEED, SHORT };
+enum form { POLYNOMIAL, CIPHERTEXT, PRIVATE_KEY, PACKED_KEY, SEED, REPORT, SHORT };
+
+enum { REPORT_BYTES = 8 };
 
 /* A lent buffer; exactly one of in and out is used. */
 struct lent {
@@ -38,6 +40,7 @@ static size_t bytes_of(const struct level *v, enum form form)
     case PRIVATE_KEY: return private_key_bytes(v);
     case PACKED_KEY: return packed_key_bytes(v);
     case SEED: return SEED_BYTES;
+    case REPORT: return REPORT_BYTES;
     default: return SHORT_BYTES;
     }
 }
@@ -188,16 +191,25 @@ static void write_error(const struct level *v, const struct poly e[2], uint8_t *
     poly_to_bytes(&e[1], e1, polynomial_bytes(v));
 }
 
-uint32_t ref_error_of(uint32_t level, const uint8_t *m, size_t mn, uint8_t *e0, size_t e0n, uint8_t *e1, size_t e1n)
+/* The numbers that an entry reports, after its answer. */
+static void report_numbers(uint32_t answer, uint32_t numbers[], size_t n)
+{
+    for (size_t i = 0; i < n; i++)
+        if (answer != 0 && !wrong(W_COUNTS_KEPT))
+            numbers[i] = 0;
+}
+
+uint32_t ref_error_of(uint32_t level, const uint8_t *m, size_t mn, uint8_t *e0, size_t e0n, uint8_t *e1, size_t e1n,
+                      uint32_t *replaced)
 {
     const struct level *v = level_of(level);
     const struct lent lent[] = {input(SHORT, m, mn), output(POLYNOMIAL, e0, e0n), output(POLYNOMIAL, e1, e1n)};
     uint32_t answer = refusal(v, lent, 3);
-    if (answer == 0) {
-        struct poly e[2];
-        hash_H(v, m, e);
+    struct poly e[2];
+    *replaced = v != NULL && mn == SHORT_BYTES ? hash_H(v, m, e) : 0;
+    if (answer == 0)
         write_error(v, e, e0, e1);
-    }
+    report_numbers(answer, replaced, 1);
     return finish(answer, v, lent, 3);
 }
 
@@ -230,22 +242,50 @@ static bool public_key(const struct level *v, const struct key *key, struct poly
     return true;
 }
 
-uint32_t ref_make_key(uint32_t level, const uint8_t *seed, size_t seedn,
-                      uint8_t *pub, size_t pubn, uint8_t *priv, size_t privn)
+/* The numbers of the two halves, h0's first. */
+static void count_halves(const uint32_t replaced[2], uint32_t numbers[2])
 {
-    const struct level *v = level_of(level);
+    bool exchanged = wrong(W_COUNTS_EXCHANGED);
+    for (int half = 0; half < 2; half++)
+        numbers[half] = wrong(W_COUNTS_ADDED) ? replaced[0] + replaced[1] : replaced[exchanged ? 1 - half : half];
+}
+
+/* Lent are the seed, the public key, the private key, and through the door the report. */
+static uint32_t make_key(const struct level *v, const struct lent lent[], size_t n, uint32_t numbers[2])
+{
+    uint32_t answer = refusal(v, lent, n), replaced[2] = {0, 0};
+    struct key key;
+    struct poly h;
+    if (v != NULL && lent[0].n == SEED_BYTES)
+        key = key_of_seed(v, lent[0].in, replaced);
+    if (answer == 0 && !public_key(v, &key, &h))
+        answer = 5;
+    if (answer == 0) {
+        poly_to_bytes(&h, lent[1].out, polynomial_bytes(v));
+        key_to_bytes(v, &key, lent[2].out);
+    }
+    count_halves(replaced, numbers);
+    report_numbers(answer, numbers, 2);
+    return finish(answer, v, lent, n);
+}
+
+uint32_t ref_make_key(uint32_t level, const uint8_t *seed, size_t seedn,
+                      uint8_t *pub, size_t pubn, uint8_t *priv, size_t privn, uint32_t replaced[2])
+{
     const struct lent lent[] = {input(SEED, seed, seedn), output(POLYNOMIAL, pub, pubn),
                                 output(PRIVATE_KEY, priv, privn)};
-    uint32_t answer = refusal(v, lent, 3);
-    if (answer == 0) {
-        struct key key = key_of_seed(v, seed);
-        struct poly h;
-        if (!public_key(v, &key, &h))
-            return finish(5, v, lent, 3);
-        poly_to_bytes(&h, pub, polynomial_bytes(v));
-        key_to_bytes(v, &key, priv);
-    }
-    return finish(answer, v, lent, 3);
+    return make_key(level_of(level), lent, 3, replaced);
+}
+
+uint32_t ref_make_key_door(uint32_t level, const uint8_t *seed, size_t seedn,
+                           uint8_t *pub, size_t pubn, uint8_t *priv, size_t privn, uint8_t *report, size_t reportn)
+{
+    const struct lent lent[] = {input(SEED, seed, seedn), output(POLYNOMIAL, pub, pubn),
+                                output(PRIVATE_KEY, priv, privn), output(REPORT, report, reportn)};
+    uint32_t numbers[2], answer = make_key(level_of(level), lent, 4, numbers);
+    for (size_t i = 0; answer == 0 && i < REPORT_BYTES; i++)
+        report[i] = (uint8_t)(numbers[i / 4] >> i % 4 * 8);
+    return answer;
 }
 
 static void xor_short(uint8_t *out, const uint8_t *a, const uint8_t *b)

@@ -2,7 +2,7 @@
  *
  * A case is the entry (1 byte), the level (4 bytes, little-endian, like all lengths), each input buffer (its length,
  * then its bytes) and each output buffer's length. It is answered by a line: ordinal, entry, answer, each output in hex
- * (- if empty), or level, thing and body length for a record. The last line is `end N`. */
+ * (- if empty) and the numbers that the entry reports. The last line is `end N`. */
 #ifndef REF_CASEFILE_H
 #define REF_CASEFILE_H
 
@@ -13,7 +13,7 @@
 
 #include "bike.h"
 
-enum { BUFFER_MAX = 16384, CASES_MAX = 65536 };
+enum { BUFFER_MAX = 16384, CASES_MAX = 65536, NUMBERS_MAX = 3 };
 
 enum entry { SHAKE256 = 1, SHA3_384, PRODUCT, INVERSE, ERROR_OF, DECODE, MAKE_KEY, WRAP, OPEN, READ_RECORD,
              PACK_KEY, UNPACK_KEY, ENTRIES };
@@ -31,12 +31,13 @@ struct test_case {
 
 struct result {
     uint32_t answer;
-    struct ref_record record;
     struct buffer out[2];
+    uint32_t numbers[NUMBERS_MAX]; /* H: replaced; key making: of h0, of h1; record: level, thing, body length */
 };
 
 unsigned case_ins(uint32_t entry);
 unsigned case_outs(uint32_t entry);
+unsigned case_numbers(uint32_t entry);
 
 enum reading { CASE_READ, CASE_END, CASE_BAD };
 enum reading case_read(FILE *file, struct test_case *c);

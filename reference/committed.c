@@ -5,6 +5,7 @@
 #include "cases.h"
 #include "generator.h"
 #include "packing.h"
+#include "wrong.h"
 
 static bool in_full(const struct level *v)
 {
@@ -390,6 +391,53 @@ static void committed_packed_pads(struct source *g, const struct level *v)
     emit(&c);
 }
 
+static void emit_error_of(const struct level *v, const uint8_t *m)
+{
+    struct test_case c;
+    case_error_of(&c, v, m);
+    emit(&c);
+}
+
+/* Messages that replace 0 and 1 positions at Level 3 too, and such as tell how replaced positions are counted: one that
+ * draws i itself, one that draws a position three times. */
+static void committed_counts(struct source *g, const struct level *v)
+{
+    uint8_t m[SHORT_BYTES];
+    for (uint32_t replaced = 0; replaced <= 1 && !in_full(v); replaced++) {
+        message_replacing(g, v, replaced, m);
+        emit_error_of(v, m);
+    }
+    message_miscounted(g, v, W_COUNT_EQUAL, m);
+    emit_error_of(v, m);
+    message_miscounted(g, v, W_COUNT_POSITIONS, m);
+    emit_error_of(v, m);
+}
+
+/* A refusal reports 0, whatever the message or the seed would replace. */
+static void emit_refused(struct test_case c)
+{
+    c.out[1]++;
+    emit(&c);
+    c.level += 256;
+    emit(&c);
+}
+
+static void committed_key_counts(struct source *g, const struct level *v)
+{
+    static const uint32_t halves[][2] = {{0, 0}, {0, 1}, {1, 0}, {1, 2}, {2, 1}};
+    struct test_case c;
+    uint8_t seed[SEED_BYTES], m[SHORT_BYTES];
+    for (size_t i = 0; i < sizeof halves / sizeof halves[0]; i++) {
+        seed_replacing(g, v, halves[i][0], halves[i][1], seed);
+        case_make_key(&c, v, seed);
+        emit(&c);
+    }
+    emit_refused(c);
+    message_replacing(g, v, 2, m);
+    case_error_of(&c, v, m);
+    emit_refused(c);
+}
+
 /* What is added comes last, so that the cases before it keep their bytes and their ordinals. */
 void committed(void)
 {
@@ -422,5 +470,9 @@ void committed(void)
             committed_packed_positions(&g, v, entry);
             committed_packed_lengths(&g, v, entry);
         }
+    }
+    for (uint32_t level = 1; level <= 3; level += 2) {
+        committed_counts(&g, level_of(level));
+        committed_key_counts(&g, level_of(level));
     }
 }

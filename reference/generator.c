@@ -5,6 +5,7 @@
 #include <string.h>
 
 #include "packing.h"
+#include "wrong.h"
 
 struct source source_of(const char *label)
 {
@@ -100,6 +101,28 @@ void message_replacing(struct source *g, const struct level *v, uint32_t replace
     do
         source_bytes(g, m, SHORT_BYTES);
     while (hash_H(v, m, e) != replaced);
+}
+
+void message_miscounted(struct source *g, const struct level *v, int reading, uint8_t *m)
+{
+    struct poly e[2];
+    uint32_t right, other;
+    do {
+        source_bytes(g, m, SHORT_BYTES);
+        right = hash_H(v, m, e);
+        ref_wrong = reading;
+        other = hash_H(v, m, e);
+        ref_wrong = W_NONE;
+    } while (right == other);
+}
+
+void seed_replacing(struct source *g, const struct level *v, uint32_t replaced0, uint32_t replaced1, uint8_t *seed)
+{
+    uint32_t replaced[2];
+    do {
+        source_bytes(g, seed, SEED_BYTES);
+        key_of_seed(v, seed, replaced);
+    } while (replaced[0] != replaced0 || replaced[1] != replaced1);
 }
 
 void random_error(struct source *g, const struct level *v, uint32_t weight, struct poly e[2])

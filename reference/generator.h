@@ -32,6 +32,10 @@ struct key close_key(struct source *g, const struct level *v);
 struct key window_key(struct source *g, const struct level *v);
 /* A message for which H's sampler replaces exactly so many positions. */
 void message_replacing(struct source *g, const struct level *v, uint32_t replaced, uint8_t *m);
+/* A message whose replaced positions a wrong reading counts otherwise. */
+void message_miscounted(struct source *g, const struct level *v, int reading, uint8_t *m);
+/* A seed whose halves replace so many positions. */
+void seed_replacing(struct source *g, const struct level *v, uint32_t replaced0, uint32_t replaced1, uint8_t *seed);
 void random_error(struct source *g, const struct level *v, uint32_t weight, struct poly e[2]);
 
 /* A ciphertext with c0·h0 = syndrome and c1 = m xor L(e). */

@@ -110,10 +110,21 @@ static bool listed(const uint32_t list[], uint32_t n, uint32_t pos)
     return false;
 }
 
+/* How many steps replaced a position that was drawn `again`; two wrong readings count otherwise. */
+static uint32_t count_of(uint32_t wt, const uint32_t list[], const uint32_t again[], uint32_t replaced)
+{
+    uint32_t count = 0;
+    if (!wrong(W_COUNT_EQUAL) && !wrong(W_COUNT_POSITIONS))
+        return replaced;
+    for (uint32_t n = 0; n < (wrong(W_COUNT_EQUAL) ? wt : replaced); n++)
+        count += wrong(W_COUNT_EQUAL) ? list[n] == wt - 1 - n : !listed(again, n, again[n]);
+    return count;
+}
+
 /* For i from wt - 1 down to 0: pos = i + floor((len - i)·s_i / 2^32), or i where pos is already listed. */
 uint32_t sample(uint32_t len, uint32_t wt, const uint32_t s[], uint32_t list[])
 {
-    uint32_t replaced = 0;
+    uint32_t replaced = 0, again[T_MAX];
     for (uint32_t n = 0; n < wt; n++) {
         uint32_t i = wrong(W_UPWARDS) ? n : wt - 1 - n;
         uint64_t word = s[wrong(W_S0_FIRST) ? n : i];
@@ -121,12 +132,12 @@ uint32_t sample(uint32_t len, uint32_t wt, const uint32_t s[], uint32_t list[])
         if (wrong(W_MODULO))
             pos = i + (uint32_t)(word % (len - i));
         if (listed(list, n, pos) && !wrong(W_NO_REPLACE)) {
+            again[replaced++] = pos;
             pos = i;
-            replaced++;
         }
         list[n] = pos;
     }
-    return replaced;
+    return count_of(wt, list, again, replaced);
 }
 
 /* The next wt words of a stream, sampled. */
@@ -160,7 +171,7 @@ static void sort(uint32_t list[], uint32_t n)
         }
 }
 
-struct key key_of_seed(const struct level *v, const uint8_t *seed)
+struct key key_of_seed(const struct level *v, const uint8_t *seed, uint32_t replaced[2])
 {
     struct key key;
     struct sponge stream;
@@ -168,7 +179,7 @@ struct key key_of_seed(const struct level *v, const uint8_t *seed)
     for (int half = 0; half < 2; half++) {
         if (wrong(W_H1_SAME_BYTES))
             start_stream(&stream, seed, 32);
-        sample_stream(&stream, v->r, v->d, key.h[half]);
+        replaced[half] = sample_stream(&stream, v->r, v->d, key.h[half]);
         if (!wrong(W_UNSORTED))
             sort(key.h[half], v->d);
     }

@@ -32,7 +32,8 @@ bool key_is_good(const struct level *v, const struct key *key);
 struct poly key_half(const struct level *v, const struct key *key, int half);
 /* e0·h0 + e1·h1 */
 struct poly syndrome_of(const struct level *v, const struct key *key, const struct poly e[2]);
-struct key key_of_seed(const struct level *v, const uint8_t *seed);
+/* With the number of replaced positions of each half. */
+struct key key_of_seed(const struct level *v, const uint8_t *seed, uint32_t replaced[2]);
 
 uint32_t little_endian(const uint8_t *bytes, size_t n);
 

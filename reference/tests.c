@@ -51,12 +51,12 @@ static void check_no_inverse(uint32_t r, uint64_t a, const char *what)
     check(!poly_inverse(r, &pa, &inverse), what);
 }
 
-static void check_sample(uint32_t s1, uint32_t s0, uint32_t first, uint32_t second, const char *what)
+static void check_sample(uint32_t s1, uint32_t s0, uint32_t first, uint32_t second, uint32_t replaced, const char *what)
 {
     const uint32_t s[] = {s0, s1};
     uint32_t list[2];
-    sample(5, 2, s, list);
-    check(list[0] == first && list[1] == second, what);
+    uint32_t count = sample(5, 2, s, list);
+    check(list[0] == first && list[1] == second && count == replaced, what);
 }
 
 static void check_threshold(uint32_t level, uint32_t S, uint32_t T, const char *what)
@@ -74,10 +74,10 @@ static void proved_examples(void)
     check_inverse(5, 0x02, 0x10, "P3");
     check_no_inverse(5, 0x03, "P4");
     check_no_inverse(5, 0x1f, "P4, all ones");
-    check_sample(0, 0, 1, 0, "P5");
-    check_sample(UINT32_MAX, UINT32_MAX, 4, 0, "P6");
-    check_sample(1u << 31, 1u << 31, 3, 2, "P7");
-    check_sample(1u << 30, 1u << 31, 2, 0, "P8");
+    check_sample(0, 0, 1, 0, 0, "P5");
+    check_sample(UINT32_MAX, UINT32_MAX, 4, 0, 1, "P6");
+    check_sample(1u << 31, 1u << 31, 3, 2, 0, "P7");
+    check_sample(1u << 30, 1u << 31, 2, 0, 1, "P8");
     check_threshold(1, 3366, 36, "P9");
     check_threshold(1, 3367, 37, "P9");
     check_threshold(3, 7168, 52, "P10");
@@ -261,11 +261,12 @@ static void round_trip(const struct level *v, unsigned number)
     uint8_t seed[SEED_BYTES], m[SHORT_BYTES], k[SHORT_BYTES], opened[SHORT_BYTES];
     uint8_t pub[(R_MAX + 7) / 8], priv[4 * D_MAX + SHORT_BYTES], c[(R_MAX + 7) / 8 + SHORT_BYTES];
     size_t pubn = polynomial_bytes(v), privn = private_key_bytes(v), cn = ciphertext_bytes(v);
+    uint32_t replaced[2];
     snprintf(label, sizeof label, "round trip %u", number);
     struct source g = source_of(label);
     source_bytes(&g, seed, sizeof seed);
     source_bytes(&g, m, sizeof m);
-    check(ref_make_key(v->number, seed, sizeof seed, pub, pubn, priv, privn) == 0, "key made");
+    check(ref_make_key(v->number, seed, sizeof seed, pub, pubn, priv, privn, replaced) == 0, "key made");
     check(ref_wrap(v->number, pub, pubn, m, sizeof m, c, cn, k, sizeof k) == 0, "message wrapped");
     check(ref_open(v->number, priv, privn, c, cn, opened, sizeof opened) == 0, "ciphertext opened");
     check(memcmp(k, opened, sizeof k) == 0, "opening gives wrapping's key");

@@ -99,7 +99,12 @@
     X(UNPACK_NO_PAD, "unpacking: the pad is not looked at") \
     X(UNPACK_LAST_PAD, "unpacking: only the last pad bit is looked at") \
     X(UNPACK_FOUR_FIRST, "unpacking: 4 before 3") \
-    X(UNPACK_LARGE, "unpacking: positions from r on are taken")
+    X(UNPACK_LARGE, "unpacking: positions from r on are taken") \
+    X(COUNT_EQUAL, "sampler: each step that appends i is counted") \
+    X(COUNT_POSITIONS, "sampler: a position that is drawn again is counted once") \
+    X(COUNTS_EXCHANGED, "key making: h1's number first") \
+    X(COUNTS_ADDED, "key making: one number for both halves") \
+    X(COUNTS_KEPT, "numbers are reported after a refusal too")
 
 #define WRONG_NAME(name, text) W_##name,
 enum { W_NONE, WRONG_READINGS(WRONG_NAME) W_COUNT };
