@@ -19,7 +19,7 @@ static const char program[] = "bench";
 static struct {
     uint8_t seed[BIKE_SEED_BYTES], message[BIKE_MESSAGE_BYTES], session_key[BIKE_SESSION_KEY_BYTES];
     uint8_t public_key[BIKE_LEVEL_3_PUBLIC_KEY_BYTES], private_key[BIKE_LEVEL_3_PRIVATE_KEY_BYTES];
-    uint8_t ciphertext[BIKE_LEVEL_3_CIPHERTEXT_BYTES];
+    uint8_t ciphertext[BIKE_LEVEL_3_CIPHERTEXT_BYTES], report[BIKE_REPORT_BYTES];
 } lent;
 
 /* A work of one of the two at a level. */
@@ -37,7 +37,7 @@ static uint32_t nothing(const struct doors *doors, const struct level *v)
 static uint32_t make_key(const struct doors *doors, const struct level *v)
 {
     return doors->make_key(v->number, lent.seed, sizeof lent.seed, lent.public_key, polynomial_bytes(v),
-                           lent.private_key, private_key_bytes(v));
+                           lent.private_key, private_key_bytes(v), lent.report, sizeof lent.report);
 }
 
 static uint32_t wrap(const struct doors *doors, const struct level *v)

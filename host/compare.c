@@ -7,6 +7,7 @@
 #include "../reference/casefile.h"
 #include "../reference/generator.h"
 #include "../reference/wrong.h"
+#include "bike.h"
 #include "doors.h"
 
 enum { GUARD = 64, GUARD_BYTE = 0x3c, OLD_BYTE = 0xa5, MOST = 1000000, PROGRESS = 500 };
@@ -19,9 +20,10 @@ struct lent {
     uint8_t room[GUARD + BUFFER_MAX + GUARD];
 };
 
+/* Key making's door has a report besides. */
 struct outcome {
     uint32_t answer;
-    struct lent in[2], out[2];
+    struct lent in[2], out[2], report;
 };
 
 static uint8_t *bytes_of(struct lent *lent)
@@ -50,7 +52,7 @@ static uint32_t call(const struct doors *doors, const struct test_case *c, struc
     uint8_t *x = bytes_of(&o->out[0]), *y = bytes_of(&o->out[1]);
     size_t an = c->in[0].n, bn = c->in[1].n, xn = c->out[0], yn = c->out[1];
     switch (c->entry) {
-    case MAKE_KEY: return doors->make_key(c->level, a, an, x, xn, y, yn);
+    case MAKE_KEY: return doors->make_key(c->level, a, an, x, xn, y, yn, bytes_of(&o->report), o->report.n);
     case WRAP: return doors->wrap(c->level, a, an, b, bn, x, xn, y, yn);
     case OPEN: return doors->open(c->level, a, an, b, bn, x, xn);
     case PACK_KEY: return doors->pack_key(c->level, a, an, x, xn);
@@ -58,8 +60,9 @@ static uint32_t call(const struct doors *doors, const struct test_case *c, struc
     }
 }
 
-static void run(const struct doors *doors, const struct test_case *c, struct outcome *o)
+static void run(const struct doors *doors, const struct test_case *c, size_t report, struct outcome *o)
 {
+    lend(&o->report, report);
     for (int i = 0; i < 2; i++) {
         lend(&o->in[i], c->in[i].n);
         memcpy(bytes_of(&o->in[i]), c->in[i].bytes, c->in[i].n);
@@ -81,7 +84,16 @@ static const char *difference(const struct test_case *c, struct outcome *got, st
         if (!guards_stand(&got->in[i]) || !guards_stand(&got->out[i]))
             return "a byte outside a buffer was changed";
     }
+    if (memcmp(got->report.room, wanted->report.room, sizeof got->report.room) != 0)
+        return "another report, or a byte outside it was changed";
     return NULL;
+}
+
+/* The report's length, in one of eight calls a wrong one. */
+static size_t report_length(struct source *g)
+{
+    static const size_t lengths[] = {0, 4, 7, 9};
+    return source_below(g, 8) == 0 ? lengths[source_below(g, 4)] : BIKE_REPORT_BYTES;
 }
 
 /* The entries that have a door. */
@@ -104,9 +116,10 @@ static bool compare(struct source *g, unsigned long count, int reading, struct c
     static struct outcome got, wanted;
     for (unsigned long i = 1; i <= count; i++) {
         random_case_of(&c, g, tried[source_below(g, TRIED)].entry);
-        run(&library, &c, &got);
+        size_t report = report_length(g);
+        run(&library, &c, report, &got);
         ref_wrong = reading;
-        run(&reference, &c, &wanted);
+        run(&reference, &c, report, &wanted);
         ref_wrong = W_NONE;
         const char *what = difference(&c, &got, &wanted);
         if (what != NULL) {

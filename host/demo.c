@@ -68,12 +68,15 @@ static void random_bytes(uint8_t *bytes, size_t n)
 
 static void make(struct controller *kart)
 {
-    uint8_t seed[BIKE_SEED_BYTES];
+    uint8_t seed[BIKE_SEED_BYTES], report[BIKE_REPORT_BYTES];
     random_bytes(seed, sizeof seed);
-    uint32_t answer = bike_make_key(LEVEL, seed, sizeof seed, kart->public_key, PUBLIC, kart->private_key, PRIVATE);
+    uint32_t answer = bike_make_key(LEVEL, seed, sizeof seed, kart->public_key, PUBLIC, kart->private_key, PRIVATE,
+                                    report, sizeof report);
     bike_wipe_stack();
     say_answer(kart->name, "makes its key pair", answer);
     must(answer == BIKE_DONE, "no key");
+    printf("  %-18s replaced positions: %lu in h0, %lu in h1\n", kart->name,
+           (unsigned long)bike_reported(report, 0), (unsigned long)bike_reported(report, 1));
 }
 
 static uint32_t wrap(struct app *app, const uint8_t *scanned, const char *what)

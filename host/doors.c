@@ -4,4 +4,4 @@
 #include "../reference/bike.h"
 
 const struct doors library = {bike_make_key, bike_wrap, bike_open, bike_pack_key, bike_unpack_key};
-const struct doors reference = {ref_make_key, ref_wrap, ref_open, ref_pack_key, ref_unpack_key};
+const struct doors reference = {ref_make_key_door, ref_wrap, ref_open, ref_pack_key, ref_unpack_key};

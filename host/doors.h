@@ -7,7 +7,7 @@
 
 struct doors {
     uint32_t (*make_key)(uint32_t level, const uint8_t *seed, size_t seedn,
-                         uint8_t *pub, size_t pubn, uint8_t *priv, size_t privn);
+                         uint8_t *pub, size_t pubn, uint8_t *priv, size_t privn, uint8_t *report, size_t reportn);
     uint32_t (*wrap)(uint32_t level, const uint8_t *pub, size_t pubn, const uint8_t *m, size_t mn,
                      uint8_t *c, size_t cn, uint8_t *k, size_t kn);
     uint32_t (*open)(uint32_t level, const uint8_t *priv, size_t privn, const uint8_t *c, size_t cn,

@@ -12,7 +12,7 @@
 static struct {
     uint8_t seed[BIKE_SEED_BYTES], message[BIKE_MESSAGE_BYTES], session_key[BIKE_SESSION_KEY_BYTES];
     uint8_t public_key[BIKE_LEVEL_3_PUBLIC_KEY_BYTES], private_key[BIKE_LEVEL_3_PRIVATE_KEY_BYTES];
-    uint8_t ciphertext[BIKE_LEVEL_3_CIPHERTEXT_BYTES];
+    uint8_t ciphertext[BIKE_LEVEL_3_CIPHERTEXT_BYTES], report[BIKE_REPORT_BYTES];
 } lent;
 
 struct lengths {
@@ -66,7 +66,7 @@ static void make_key(const struct lengths *n)
     fill(lent.seed, sizeof lent.seed);
     secret(lent.seed, sizeof lent.seed);
     done(bike_make_key(n->level, lent.seed, sizeof lent.seed, lent.public_key, n->public_key,
-                       lent.private_key, n->private_key));
+                       lent.private_key, n->private_key, lent.report, sizeof lent.report));
     mark_public(lent.public_key, n->public_key);
 }
 

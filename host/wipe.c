@@ -16,7 +16,7 @@ static _Alignas(4096) uint8_t stack[THREAD_BYTES];
  * positions. */
 static uint8_t seed[BIKE_SEED_BYTES], message[BIKE_MESSAGE_BYTES], session_key[BIKE_SESSION_KEY_BYTES];
 static uint8_t public_key[BIKE_LEVEL_1_PUBLIC_KEY_BYTES], private_key[BIKE_LEVEL_1_PRIVATE_KEY_BYTES];
-static uint8_t ciphertext[BIKE_LEVEL_1_CIPHERTEXT_BYTES];
+static uint8_t ciphertext[BIKE_LEVEL_1_CIPHERTEXT_BYTES], report[BIKE_REPORT_BYTES];
 
 static _Noreturn void fail(const char *what)
 {
@@ -27,7 +27,7 @@ static _Noreturn void fail(const char *what)
 static uint32_t make_key(void)
 {
     return bike_make_key(BIKE_LEVEL_1, seed, sizeof seed, public_key, sizeof public_key,
-                         private_key, sizeof private_key);
+                         private_key, sizeof private_key, report, sizeof report);
 }
 
 static uint32_t wrap(void)

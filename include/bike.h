@@ -28,6 +28,7 @@ enum {
     BIKE_SEED_BYTES = 64,
     BIKE_MESSAGE_BYTES = 32,
     BIKE_SESSION_KEY_BYTES = 32,
+    BIKE_REPORT_BYTES = 8,
     BIKE_STACK_BYTES = 512 * 1024,
 
     BIKE_LEVEL_1 = 1,
@@ -50,10 +51,19 @@ enum {
     BIKE_NO_INVERSE = 5    /* the seed gives no key pair: take another */
 };
 
-/* Makes the key pair that the seed determines. Gives 0, 1, 2 or 5. */
+/* Makes the key pair that the seed determines. Gives 0, 1, 2 or 5. The report has two numbers: how many positions of h0
+ * and of h1 the sampler replaced because they were listed already. Before there was a report this function had two
+ * parameters fewer: callers that were compiled with that header must be compiled anew. */
 uint32_t bike_make_key(uint32_t level, const uint8_t *seed, size_t seed_bytes,
                        uint8_t *public_key, size_t public_key_bytes,
-                       uint8_t *private_key, size_t private_key_bytes);
+                       uint8_t *private_key, size_t private_key_bytes,
+                       uint8_t *report, size_t report_bytes);
+
+/* Number i of a report, the first being number 0: four bytes each, little-endian. */
+static inline uint32_t bike_reported(const uint8_t *report, size_t i)
+{
+    return report[4 * i] | report[4 * i + 1] << 8 | report[4 * i + 2] << 16 | (uint32_t)report[4 * i + 3] << 24;
+}
 
 /* Wraps a message to a public key: the ciphertext for its owner, and the session key for this side. Gives 0, 1, 2 or 3. */
 uint32_t bike_wrap(uint32_t level, const uint8_t *public_key, size_t public_key_bytes,
