@@ -67,8 +67,8 @@ fn run(level: u32, seed: &[u8], message: &[u8], sent: &mut [u8], opened: &mut [u
     let mut private_key = no_private_key();
     let mut ciphertext = no_ciphertext();
     let made = make_key(level, seed, &mut public_key[..n], &mut private_key[..p]);
-    if made != 0 {
-        return refuse::two(made, sent, opened);
+    if made.answer != 0 {
+        return refuse::two(made.answer, sent, opened);
     }
     wrap(level, &public_key[..n], message, &mut ciphertext[..k], sent);
     open(level, &private_key[..p], &ciphertext[..k], opened)

@@ -1,10 +1,11 @@
 -- What it says that a judge finds nothing, entry by entry, in both directions. Assumes nothing.
-use mathlib.Core.Path.{_≡_}
-use mathlib.Core.Bool.{true, false}
-use mathlib.Core.List.{List}
-use Prim.Native.Nat.{ℕ}
-use borrow.Author.Tests.{eq-eqb, not-false}
-use lib.Dec.{lit<}
+use mathlib.Core.Path.{_≡_, refl, sym, _∙_}
+use mathlib.Core.Bool.{Bool, true, false, not, _&&_, _||_}
+use mathlib.Core.List.{List, [], _∷_}
+use Prim.Native.Nat.{ℕ, zero, suc}
+use borrow.Author.Tests.{eq-eqb, ne-eqb, not-false}
+use native.Mathlib.Omega.{arith}
+use lib.Dec.{eqb, lit<}
 use lib.ListN.{length, take}
 use Rattle.hashing.specs.Answers.{firstOf, differs}
 use Rattle.hashing.proofs.Answers.{Numbered, agree, clear}
@@ -12,6 +13,7 @@ use Rattle.ring.specs.Bytes.{padSet}
 use Rattle.ring.specs.Levels.{Level, known, levelOf, messageBytes, seedBytes, polyBytes, ciphertextBytes, privateBytes}
 use Rattle.ring.proofs.Bools.{both-false}
 use Rattle.exchange.specs.decoder.PrivateKey.{goodKey}
+use Rattle.exchange.specs.Doors.{reportBytes, making-door-reasons}
 use Rattle.exchange.specs.Promises.{error-reasons, making-reasons, wrapping-reasons, content-reasons, decoding-reasons, opening-reasons}
 
 -- lengths that are right
@@ -69,6 +71,43 @@ module _ {level : ℕ} {seed : List ℕ} {roomPublic roomPrivate : ℕ} where
 pub making-numbered : (level : ℕ) (seed : List ℕ) (roomPublic roomPrivate : ℕ) → Numbered (making-reasons level seed roomPublic roomPrivate)
 unfolding making-reasons
 making-numbered level seed roomPublic roomPrivate = (lit< tt, (lit< tt, tt))
+
+-- and its door: 2 for the report's length, where the entry finds nothing
+unfoldable pub later : ℕ → Bool → ℕ
+later first wrong = elim (eqb first 0 && wrong) [ true ↦ 2 | false ↦ first ]
+
+module _ (level : ℕ) (seed : List ℕ) (roomPublic roomPrivate roomReport : ℕ) where
+  pub making-door-first : firstOf (making-door-reasons level seed roomPublic roomPrivate roomReport)
+      ≡ later (firstOf (making-reasons level seed roomPublic roomPrivate)) (differs roomReport reportBytes)
+  unfolding making-door-reasons making-reasons firstOf later
+  making-door-first =
+      go (not (known level))
+      (differs (length seed) seedBytes || differs roomPublic (polyBytes (levelOf level)) || differs roomPrivate (privateBytes (levelOf level)))
+      (differs roomReport reportBytes)
+    where
+      go : (unknown wrong report : Bool)
+          → firstOf (record { applies = unknown; number = 1 } ∷ record { applies = wrong || report; number = 2 } ∷ [])
+          ≡ later (firstOf (record { applies = unknown; number = 1 } ∷ record { applies = wrong; number = 2 } ∷ [])) report
+      go true wrong report = refl
+      go false true report = refl
+      go false false true = refl
+      go false false false = refl
+
+  pub making-door-clear : firstOf (making-door-reasons level seed roomPublic roomPrivate roomReport) ≡ 0
+      → (firstOf (making-reasons level seed roomPublic roomPrivate) ≡ 0) × (roomReport ≡ reportBytes)
+  unfolding later
+  making-door-clear none =
+      let is = go (firstOf (making-reasons level seed roomPublic roomPrivate)) (differs roomReport reportBytes) (sym making-door-first ∙ none) in
+      (is .0, agree _ _ (is .1))
+    where
+      go : (first : ℕ) (wrong : Bool) → later first wrong ≡ 0 → (first ≡ 0) × (wrong ≡ false)
+      go zero true e = absurd (omega arith)
+      go zero false e = (refl, refl)
+      go (suc first) wrong e = absurd (omega (arith, rw (ne-eqb (suc first) 0 (λ h. omega arith), later) at e))
+
+  pub making-door-numbered : Numbered (making-door-reasons level seed roomPublic roomPrivate roomReport)
+  unfolding making-door-reasons
+  making-door-numbered = (lit< tt, (lit< tt, tt))
 
 -- wrapping
 pub record WrappingClear (level : ℕ) (h m : List ℕ) (roomCiphertext roomKey : ℕ) : Type 0 where

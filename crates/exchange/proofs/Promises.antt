@@ -2,9 +2,10 @@
 use mathlib.Core.Path.{_≡_, sym, _∙_}
 use mathlib.Core.List.{List}
 use Prim.Native.Nat.{ℕ}
-use Rattle.hashing.proofs.Answers.{one-output, two-outputs}
+use Rattle.hashing.proofs.Answers.{one-output, two-outputs, three-outputs, one-number, two-numbers}
 use Rattle.exchange.specs.declared.record.Reading.{Reading}
-use Rattle.exchange.specs.Promises.{ErrorOfPromise, MakeKeyPromise, WrapPromise, DecodePromise, OpenPromise}
+use Rattle.exchange.specs.Doors.{MakeKeyDoorPromise}
+use Rattle.exchange.specs.Promises.{ErrorOfPromise, ErrorCountPromise, MakeKeyPromise, KeyCountPromise, WrapPromise, DecodePromise, OpenPromise}
 use Rattle.exchange.specs.Records.{RecordPromise}
 use Rattle.exchange.proofs.record.Laws.{outcomeOf-one}
 
@@ -13,10 +14,25 @@ pub error-of-just-one : (level : ℕ) (m : List ℕ) (room0 room1 : ℕ) {r r′
     → (r ≡ r′) × (e0 ≡ e0′) × (e1 ≡ e1′)
 error-of-just-one level m room0 room1 = two-outputs
 
+pub error-count-just-one : (level : ℕ) (m : List ℕ) (room0 room1 : ℕ) {n n′ : ℕ}
+    → ErrorCountPromise level m room0 room1 n → ErrorCountPromise level m room0 room1 n′ → n ≡ n′
+error-count-just-one level m room0 room1 = one-number
+
 pub make-key-just-one : (level : ℕ) (seed : List ℕ) (roomPublic roomPrivate : ℕ) {r r′ : ℕ} {public public′ private private′ : List ℕ}
     → MakeKeyPromise level seed roomPublic roomPrivate r public private → MakeKeyPromise level seed roomPublic roomPrivate r′ public′ private′
     → (r ≡ r′) × (public ≡ public′) × (private ≡ private′)
 make-key-just-one level seed roomPublic roomPrivate = two-outputs
+
+pub key-count-just-one : (level : ℕ) (seed : List ℕ) (roomPublic roomPrivate : ℕ) {n n′ k k′ : ℕ}
+    → KeyCountPromise level seed roomPublic roomPrivate n k → KeyCountPromise level seed roomPublic roomPrivate n′ k′ → (n ≡ n′) × (k ≡ k′)
+key-count-just-one level seed roomPublic roomPrivate = two-numbers
+
+pub make-key-door-just-one : (level : ℕ) (seed : List ℕ) (roomPublic roomPrivate roomReport : ℕ) {r r′ : ℕ}
+    {public public′ private private′ report report′ : List ℕ}
+    → MakeKeyDoorPromise level seed roomPublic roomPrivate roomReport r public private report
+    → MakeKeyDoorPromise level seed roomPublic roomPrivate roomReport r′ public′ private′ report′
+    → (r ≡ r′) × (public ≡ public′) × (private ≡ private′) × (report ≡ report′)
+make-key-door-just-one level seed roomPublic roomPrivate roomReport = three-outputs
 
 pub wrap-just-one : (level : ℕ) (h m : List ℕ) (roomCiphertext roomKey : ℕ) {r r′ : ℕ} {c c′ key key′ : List ℕ}
     → WrapPromise level h m roomCiphertext roomKey r c key → WrapPromise level h m roomCiphertext roomKey r′ c′ key′

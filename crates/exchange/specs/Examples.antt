@@ -6,7 +6,7 @@ use Prim.Native.Nat.{ℕ, _-_, _^_, _<_}
 use Rattle.ring.specs.Levels.{level1, level3}
 use Rattle.ring.specs.Polynomials.{Poly, mul, terms, weight, IsInverse, hasInverse, inverseOf}
 use Rattle.exchange.specs.decoder.Decoder.{Pair, counter, residual, threshold, step}
-use Rattle.exchange.specs.Sampler.{sample}
+use Rattle.exchange.specs.Sampler.{sample, replaced}
 
 pub record Examples : Type 0 where
   -- r = 5: (1+X)(1+X+X²) = 1+X³
@@ -35,3 +35,10 @@ pub record Examples : Type 0 where
   pub P12 : (counter 7 (terms 7 (0 ∷ 1 ∷ 3 ∷ [])) (terms 7 (0 ∷ 1 ∷ 3 ∷ [])) 0 ≡ 3)
       × (counter 7 (terms 7 (0 ∷ 1 ∷ 3 ∷ [])) (terms 7 (0 ∷ 1 ∷ 3 ∷ [])) 1 ≡ 1)
       × (counter 7 (terms 7 (0 ∷ 1 ∷ 3 ∷ [])) (terms 7 (0 ∷ 1 ∷ 3 ∷ [])) 2 ≡ 1)
+
+-- how many positions P5 to P8 replace
+pub record Counts : Type 0 where
+  pub P5 : replaced 5 2 (0 ∷ 0 ∷ []) ≡ 0
+  pub P6 : replaced 5 2 ((2 ^ 32 - 1) ∷ (2 ^ 32 - 1) ∷ []) ≡ 1
+  pub P7 : replaced 5 2 ((2 ^ 31) ∷ (2 ^ 31) ∷ []) ≡ 0
+  pub P8 : replaced 5 2 ((2 ^ 31) ∷ (2 ^ 30) ∷ []) ≡ 1

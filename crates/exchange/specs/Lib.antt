@@ -1,3 +1,4 @@
+pub mod Doors
 pub mod Examples
 pub mod Fits
 pub mod Opening

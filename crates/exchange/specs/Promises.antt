@@ -6,7 +6,7 @@ use mathlib.Core.Bool.{not, _||_}
 use mathlib.Core.List.{List, [], _∷_, _++_}
 use Prim.Native.Nat.{ℕ}
 use lib.ListN.{length, take}
-use Rattle.hashing.specs.Answers.{Reason, Outcome, differs, settle}
+use Rattle.hashing.specs.Answers.{Reason, Outcome, differs, settle, reported}
 use Rattle.hashing.specs.Answers.Outcome.{gives}
 use Rattle.hashing.specs.Lists.{bits}
 use Rattle.ring.specs.Bytes.{bytesOf, padSet}
@@ -15,7 +15,7 @@ use Rattle.ring.specs.Polynomials.{hasInverse}
 use Rattle.exchange.specs.decoder.Decoder.{bgf, failed}
 use Rattle.exchange.specs.decoder.PrivateKey.{secret, goodKey}
 use Rattle.exchange.specs.Opening.{opened}
-use Rattle.exchange.specs.Scheme.{hashH, hashK, h0Of, publicOf, privateOf, wrapped}
+use Rattle.exchange.specs.Scheme.{hashH, hashK, h0Of, publicOf, privateOf, h0Replaced, h1Replaced, errorReplaced, wrapped}
 
 -- H: a message, e0 and e1
 unfoldable pub error-reasons : ℕ → List ℕ → ℕ → ℕ → List Reason
@@ -35,6 +35,10 @@ error-of-says level m room0 room1 =
 
 abbrev pub ErrorOfPromise : ℕ → List ℕ → ℕ → ℕ → ℕ → List ℕ → List ℕ → Type 0
 ErrorOfPromise level m room0 room1 r e0 e1 = gives r (e0 ∷ e1 ∷ []) ≡ error-of-says level m room0 room1
+
+abbrev pub ErrorCountPromise : ℕ → List ℕ → ℕ → ℕ → ℕ → Type 0
+ErrorCountPromise level m room0 room1 replaced =
+    replaced ∷ [] ≡ reported (error-of-says level m room0 room1) (errorReplaced (levelOf level) m ∷ [])
 
 -- key making: a seed, public and private key
 unfoldable pub making-reasons : ℕ → List ℕ → ℕ → ℕ → List Reason
@@ -56,6 +60,11 @@ make-key-says level seed roomPublic roomPrivate =
 abbrev pub MakeKeyPromise : ℕ → List ℕ → ℕ → ℕ → ℕ → List ℕ → List ℕ → Type 0
 MakeKeyPromise level seed roomPublic roomPrivate r public private =
     gives r (public ∷ private ∷ []) ≡ make-key-says level seed roomPublic roomPrivate
+
+abbrev pub KeyCountPromise : ℕ → List ℕ → ℕ → ℕ → ℕ → ℕ → Type 0
+KeyCountPromise level seed roomPublic roomPrivate replaced0 replaced1 =
+    replaced0 ∷ replaced1 ∷ []
+    ≡ reported (make-key-says level seed roomPublic roomPrivate) (h0Replaced (levelOf level) seed ∷ h1Replaced (levelOf level) seed ∷ [])
 
 -- wrapping: a public key and a message, ciphertext and session key
 unfoldable pub wrapping-reasons : ℕ → List ℕ → List ℕ → ℕ → ℕ → List Reason

@@ -3,7 +3,7 @@ use mathlib.Core.Bool.{true, false}
 use mathlib.Core.List.{List, [], _∷_, _++_}
 use Prim.Native.Nat.{ℕ, zero, suc, _+_, _-_, _*_, _/_, _^_}
 use lib.ListN.{getD}
-use Rattle.ring.specs.Polynomials.{listed}
+use Rattle.ring.specs.Polynomials.{bit, listed}
 
 -- "pos = i + floor((len − i)·s_i / 2^32)"
 unfoldable pub candidate : ℕ → ℕ → ℕ → ℕ
@@ -21,6 +21,15 @@ sampleBelow len words (suc i) list = sampleBelow len words i (appended i (candid
 -- "Given len, wt and 32-bit words s_0 .. s_(wt−1)"
 unfoldable pub sample : ℕ → ℕ → List ℕ → List ℕ
 sample len wt words = sampleBelow len words wt []
+
+-- CR 2: "the number of steps at which i was used because pos was already listed", over the same steps with the same list
+unfoldable pub replacedBelow : ℕ → List ℕ → ℕ → List ℕ → ℕ
+replacedBelow len words zero list = 0
+replacedBelow len words (suc i) list =
+    let pos = candidate len i (getD words i 0) in bit (listed pos list) + replacedBelow len words i (appended i pos list)
+
+unfoldable pub replaced : ℕ → ℕ → List ℕ → ℕ
+replaced len wt words = replacedBelow len words wt []
 
 -- key making's sampler and H's go by names of their own: a change of one leaves the other
 unfoldable pub sampleKey : ℕ → ℕ → List ℕ → List ℕ

@@ -11,7 +11,7 @@ use Rattle.ring.specs.Bytes.{bytesOf, numbers}
 use Rattle.ring.specs.Levels.{Level, messageBytes}
 use Rattle.ring.specs.Polynomials.{Poly, rising, add, mul, inverseOf, listed, support}
 use Rattle.exchange.specs.decoder.Decoder.{Pair}
-use Rattle.exchange.specs.Sampler.{sampleKey, sampleError}
+use Rattle.exchange.specs.Sampler.{sampleKey, sampleError, replaced}
 
 -- "Key making": the stream of the seed's first 32 bytes, "4d bytes for h0, then the next 4d for h1, each sampled with len r and weight d"
 unfoldable pub keyStream : Level → List ℕ → List ℕ
@@ -22,6 +22,13 @@ h0Of l seed = support (sampleKey (l .r) (l .d) (numbers 4 (l .d) (keyStream l se
 
 unfoldable pub h1Of : Level → List ℕ → Poly
 h1Of l seed = support (sampleKey (l .r) (l .d) (numbers 4 (l .d) (drop (4 * l .d) (keyStream l seed))))
+
+-- CR 2: how many positions of each half were replaced
+unfoldable pub h0Replaced : Level → List ℕ → ℕ
+h0Replaced l seed = replaced (l .r) (l .d) (numbers 4 (l .d) (keyStream l seed))
+
+unfoldable pub h1Replaced : Level → List ℕ → ℕ
+h1Replaced l seed = replaced (l .r) (l .d) (numbers 4 (l .d) (drop (4 * l .d) (keyStream l seed)))
 
 -- "The seed's last 32 bytes are sigma"
 unfoldable pub sigmaOf : List ℕ → List ℕ
@@ -47,6 +54,10 @@ privateOf l seed = privateKey (l .r) (h0Of l seed) (h1Of l seed) (sigmaOf seed)
 -- "H(m): SHAKE256 of m, 4t bytes, len 2r, weight t; position p below r is bit p of e0, else bit p − r of e1"
 unfoldable pub errorPositions : Level → List ℕ → List ℕ
 errorPositions l m = sampleError (2 * l .r) (l .t) (numbers 4 (l .t) (shake256 m (4 * l .t)))
+
+-- CR 2: how many of them were replaced
+unfoldable pub errorReplaced : Level → List ℕ → ℕ
+errorReplaced l m = replaced (2 * l .r) (l .t) (numbers 4 (l .t) (shake256 m (4 * l .t)))
 
 unfoldable pub split : ℕ → List ℕ → Pair
 split r positions =

@@ -1,18 +1,60 @@
-// The doors that C calls, on a level and byte slices: each slice is a pointer and a length. A door keeps its entry's promise.
+// The doors that C calls, on a level and byte slices: each slice is a pointer and a length. A door keeps its entry's promise,
+// and that of key making has a report besides.
+use crate::bytes;
+use crate::judge;
+use hashing::refuse;
+ghost use mathlib.Core.Path.{_≡_};
+ghost use mathlib.Core.List.{_++_};
 ghost use lib.ListN.{length};
-ghost use Rattle.exchange.specs.Promises.{MakeKeyPromise, WrapPromise, OpenPromise};
+ghost use Rattle.exchange.specs.Promises.{WrapPromise, OpenPromise};
+ghost use Rattle.exchange.specs.Doors.{fourBytes, reportBytes, MakeKeyDoorPromise};
 
+fn four_bytes(n: u32) -> [u8; 4]
+    ensures { λ b. ⌜ b ≡ fourBytes n ⌝ }
+{
+    [
+        (n % 256) as u8,
+        (n / 256 % 256) as u8,
+        (n / 65536 % 256) as u8,
+        (n / 16777216 % 256) as u8,
+    ]
+}
+
+fn write_report(number0: u32, number1: u32, report: &mut [u8])
+    requires { ⌜ length (now report) ≡ reportBytes ⌝ }
+    ensures { λ _. ⌜ now (report .exit) ≡ fourBytes number0 ++ fourBytes number1 ⌝ }
+{
+    let b0 = four_bytes(number0);
+    let b1 = four_bytes(number1);
+    bytes::copy(&b0, &mut report[..4]);
+    bytes::copy(&b1, &mut report[4..]);
+}
+
+// A refusal of the entry reports zeros by itself.
 #[no_mangle]
 pub extern "C" fn bike_make_key(
     level: u32,
     seed: &[u8],
     public_key: &mut [u8],
     private_key: &mut [u8],
+    report: &mut [u8],
 ) -> u32
-    ensures { λ r. ⌜ MakeKeyPromise level (now (seed .entry)) (length (now («public_key» .entry))) (length (now («private_key» .entry)))
-        r (now («public_key» .exit)) (now («private_key» .exit)) ⌝ }
+    ensures { λ r. ⌜ MakeKeyDoorPromise level (now (seed .entry)) (length (now («public_key» .entry))) (length (now («private_key» .entry)))
+        (length (now (report .entry))) r (now («public_key» .exit)) (now («private_key» .exit)) (now (report .exit)) ⌝ }
 {
-    crate::make_key(level, seed, public_key, private_key)
+    let answer = judge::making_door(
+        level,
+        seed,
+        public_key.len(),
+        private_key.len(),
+        report.len(),
+    );
+    if answer != 0 {
+        return refuse::three(answer, public_key, private_key, report);
+    }
+    let made = crate::make_key(level, seed, public_key, private_key);
+    write_report(made.replaced0, made.replaced1, report);
+    made.answer
 }
 
 #[no_mangle]

@@ -22,7 +22,7 @@ ghost use Rattle.ring.specs.Levels.{levelOf, polyBytes};
 ghost use Rattle.ring.specs.Polynomials.{listed};
 ghost use Rattle.ring.specs.inner.Sizes.{mostT, errorBytes, wordBits, wordBytes};
 ghost use Rattle.exchange.specs.Scheme;
-ghost use Rattle.exchange.specs.Scheme.{errorPositions, hashH};
+ghost use Rattle.exchange.specs.Scheme.{errorPositions, errorReplaced, hashH};
 
 const STREAM: usize = 4 * MOST_T;
 
@@ -62,17 +62,23 @@ fn stream(level: u32, message: &[u8]) -> [u8; STREAM]
     words
 }
 
-// The t positions of the error, at the front of the list.
-pub fn positions(level: u32, message: &[u8]) -> [u32; MOST_T]
-    ensures { λ r. ⌜ take (levelOf level .t) r ≡ errorPositions (levelOf level) (now (message .entry)) ⌝ }
+pub struct ErrorPositions {
+    pub list: [u32; MOST_T],
+    pub replaced: u32,
+}
+
+// The t positions of the error, at the front of the list, and how many of them were replaced.
+pub fn positions(level: u32, message: &[u8]) -> ErrorPositions
+    ensures { λ p. ⌜ (take (levelOf level .t) (p .list) ≡ errorPositions (levelOf level) (now (message .entry)))
+        × (p .replaced ≡ errorReplaced (levelOf level) (now (message .entry))) ⌝ }
 {
     let t = size::error_weight(level);
     let n = 4 * t;
     let len = 2 * (size::block(level) as u32);
     let words = stream(level, message);
     let mut list = no_positions();
-    sampler::sample(len, &words[..n], &mut list[..t]);
-    list
+    let replaced = sampler::sample(len, &words[..n], &mut list[..t]);
+    ErrorPositions { list, replaced }
 }
 
 // Sets the bit of a position.
@@ -125,28 +131,41 @@ pub fn halves(level: u32, list: &[u32]) -> ErrorWords
     split(size::block(level), all)
 }
 
-// H in words.
-pub fn words_of(level: u32, message: &[u8]) -> ErrorWords
-    ensures { λ e. ⌜ (bits 64 (e .e0) ≡ hashH (levelOf level) (now (message .entry)) .half0)
-        × (bits 64 (e .e1) ≡ hashH (levelOf level) (now (message .entry)) .half1) ⌝ }
-{
-    let t = size::error_weight(level);
-    let list = positions(level, message);
-    halves(level, &list[..t])
+pub struct Hashed {
+    pub words: ErrorWords,
+    pub replaced: u32,
 }
 
-// H for buffers of the level's length.
-pub fn hash_h(level: u32, message: &[u8], e0: &mut [u8], e1: &mut [u8])
+// H in words, and how many positions were replaced.
+pub fn words_of(level: u32, message: &[u8]) -> Hashed
+    ensures { λ e. ⌜ (bits 64 (e .words .e0) ≡ hashH (levelOf level) (now (message .entry)) .half0)
+        × (bits 64 (e .words .e1) ≡ hashH (levelOf level) (now (message .entry)) .half1)
+        × (e .replaced ≡ errorReplaced (levelOf level) (now (message .entry))) ⌝ }
+{
+    let t = size::error_weight(level);
+    let sampled = positions(level, message);
+    let list = sampled.list;
+    let words = halves(level, &list[..t]);
+    Hashed {
+        words,
+        replaced: sampled.replaced,
+    }
+}
+
+// H for buffers of the level's length: how many positions were replaced.
+pub fn hash_h(level: u32, message: &[u8], e0: &mut [u8], e1: &mut [u8]) -> u32
     requires { ⌜ (length (now e0) ≡ polyBytes (levelOf level)) × (length (now e1) ≡ polyBytes (levelOf level)) ⌝ }
-    ensures { λ _.
+    ensures { λ replaced.
         ⌜ (now (e0 .exit) ≡ bytesOf (levelOf level .r) (hashH (levelOf level) (now (message .entry)) .half0))
-        × (now (e1 .exit) ≡ bytesOf (levelOf level .r) (hashH (levelOf level) (now (message .entry)) .half1)) ⌝ }
+        × (now (e1 .exit) ≡ bytesOf (levelOf level .r) (hashH (levelOf level) (now (message .entry)) .half1))
+        × (replaced ≡ errorReplaced (levelOf level) (now (message .entry))) ⌝ }
 {
     let e = words_of(level, message);
-    let w0 = e.e0;
-    let w1 = e.e1;
+    let w0 = e.words.e0;
+    let w1 = e.words.e1;
     words::store(w0, e0);
     words::store(w1, e1);
+    e.replaced
 }
 
 pub struct ErrorBytes {

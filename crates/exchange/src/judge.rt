@@ -9,7 +9,11 @@ ghost use mathlib.Core.Path.{_≡_};
 ghost use lib.ListN.{length};
 ghost use Rattle.hashing.specs.Answers.{firstOf};
 ghost use Rattle.ring.specs.Levels.{levelOf, polyBytes, privateBytes};
+ghost use Rattle.exchange.specs.Doors.{making-door-reasons};
 ghost use Rattle.exchange.specs.Promises.{error-reasons, making-reasons, wrapping-reasons, content-reasons, decoding-reasons, opening-reasons};
+
+// A report's two numbers have 4 bytes each.
+const REPORT: usize = 8;
 
 pub fn error(level: u32, message: &[u8], room0: usize, room1: usize) -> u32
     ensures { λ r. ⌜ r ≡ firstOf (error-reasons level (now (message .entry)) room0 room1) ⌝ }
@@ -37,6 +41,23 @@ pub fn making(level: u32, seed: &[u8], room_public: usize, room_private: usize) 
         return 2;
     }
     0
+}
+
+// The door of key making has a report too.
+pub fn making_door(
+    level: u32,
+    seed: &[u8],
+    room_public: usize,
+    room_private: usize,
+    room_report: usize,
+) -> u32
+    ensures { λ r. ⌜ r ≡ firstOf (making-door-reasons level (now (seed .entry)) «room_public» «room_private» «room_report») ⌝ }
+{
+    let answer = making(level, seed, room_public, room_private);
+    if (answer == 0) & (room_report != REPORT) {
+        return 2;
+    }
+    answer
 }
 
 pub fn wrapping(

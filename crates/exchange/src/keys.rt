@@ -24,8 +24,8 @@ ghost use Rattle.ring.specs.Polynomials;
 ghost use Rattle.ring.specs.Polynomials.{InRing, weight, hasInverse, support};
 ghost use Rattle.exchange.specs.Promises.{making-reasons};
 ghost use Rattle.ring.specs.Bytes.{bytesOf, numbers};
-ghost use Rattle.exchange.specs.Sampler.{sampleKey};
-ghost use Rattle.exchange.specs.Scheme.{keyStream, h0Of, h1Of, publicOf, privateOf, twoBytes, privateKey};
+ghost use Rattle.exchange.specs.Sampler.{sampleKey, replaced};
+ghost use Rattle.exchange.specs.Scheme.{keyStream, h0Of, h1Of, publicOf, privateOf, h0Replaced, h1Replaced, twoBytes, privateKey};
 
 const STREAM: usize = 8 * MOST_D;
 
@@ -58,29 +58,45 @@ fn stream(level: u32, seed: &[u8]) -> [u8; STREAM]
     words
 }
 
-// The d positions of one half, at the front of the list.
-fn sampled(level: u32, stream: &[u8]) -> [u32; MOST_D]
+struct KeyPositions {
+    list: [u32; MOST_D],
+    replaced: u32,
+}
+
+// The d positions of one half, at the front of the list, and how many of them were replaced.
+fn sampled(level: u32, stream: &[u8]) -> KeyPositions
     requires { ⌜ 4 * levelOf level .d ≤ length (now stream) ⌝ }
-    ensures { λ r. ⌜ take (levelOf level .d) r
-        ≡ sampleKey (levelOf level .r) (levelOf level .d) (numbers 4 (levelOf level .d) (now (stream .entry))) ⌝ }
+    ensures { λ p. ⌜ (take (levelOf level .d) (p .list)
+        ≡ sampleKey (levelOf level .r) (levelOf level .d) (numbers 4 (levelOf level .d) (now (stream .entry))))
+        × (p .replaced ≡ replaced (levelOf level .r) (levelOf level .d) (numbers 4 (levelOf level .d) (now (stream .entry)))) ⌝ }
 {
     let d = size::key_weight(level);
     let mut list = no_positions();
-    sampler::sample(size::block(level) as u32, stream, &mut list[..d]);
-    list
+    let replaced = sampler::sample(size::block(level) as u32, stream, &mut list[..d]);
+    KeyPositions { list, replaced }
+}
+
+struct HalfWords {
+    words: [u64; WORDS],
+    replaced: u32,
 }
 
 // One half in words, from the front of a stream.
-fn half(level: u32, stream: &[u8]) -> [u64; WORDS]
+fn half(level: u32, stream: &[u8]) -> HalfWords
     requires { ⌜ 4 * levelOf level .d ≤ length (now stream) ⌝ }
-    ensures { λ h. ⌜ bits 64 h
-        ≡ support (sampleKey (levelOf level .r) (levelOf level .d) (numbers 4 (levelOf level .d) (now (stream .entry)))) ⌝ }
+    ensures { λ h. ⌜ (bits 64 (h .words)
+        ≡ support (sampleKey (levelOf level .r) (levelOf level .d) (numbers 4 (levelOf level .d) (now (stream .entry)))))
+        × (h .replaced ≡ replaced (levelOf level .r) (levelOf level .d) (numbers 4 (levelOf level .d) (now (stream .entry)))) ⌝ }
 {
     let d = size::key_weight(level);
-    let list = sampled(level, stream);
-    let mut h = zeros();
-    error::place(&list[..d], &mut h);
-    h
+    let sampled = sampled(level, stream);
+    let list = sampled.list;
+    let mut words = zeros();
+    error::place(&list[..d], &mut words);
+    HalfWords {
+        words,
+        replaced: sampled.replaced,
+    }
 }
 
 pub struct KeyWords {
@@ -88,18 +104,35 @@ pub struct KeyWords {
     pub h1: [u64; WORDS],
 }
 
+struct KeyHalves {
+    h0: [u64; WORDS],
+    h1: [u64; WORDS],
+    replaced0: u32,
+    replaced1: u32,
+}
+
 // h0 from the first 4d bytes of the stream, h1 from the next 4d.
-fn both_halves(level: u32, seed: &[u8]) -> KeyWords
+fn both_halves(level: u32, seed: &[u8]) -> KeyHalves
     requires { ⌜ 32 ≤ length (now seed) ⌝ }
     ensures { λ h. ⌜ (bits 64 (h .h0) ≡ h0Of (levelOf level) (now (seed .entry)))
-        × (bits 64 (h .h1) ≡ h1Of (levelOf level) (now (seed .entry))) ⌝ }
+        × (bits 64 (h .h1) ≡ h1Of (levelOf level) (now (seed .entry)))
+        × (h .replaced0 ≡ h0Replaced (levelOf level) (now (seed .entry)))
+        × (h .replaced1 ≡ h1Replaced (levelOf level) (now (seed .entry))) ⌝ }
 {
     let n = 8 * size::key_weight(level);
     let middle = n / 2;
     let words = stream(level, seed);
-    KeyWords {
-        h0: half(level, &words[..n]),
-        h1: half(level, &words[middle..n]),
+    let first = half(level, &words[..n]);
+    let second = half(level, &words[middle..n]);
+    let h0 = first.words;
+    let h1 = second.words;
+    let replaced0 = first.replaced;
+    let replaced1 = second.replaced;
+    KeyHalves {
+        h0,
+        h1,
+        replaced0,
+        replaced1,
     }
 }
 
@@ -151,23 +184,42 @@ pub fn write_private(level: u32, h: KeyWords, tail: &[u8], out: &mut [u8])
     write_rest(level, h1, tail, &mut out[n..]);
 }
 
+// Whether a key was made, and how many positions of h0 and of h1 were replaced.
+pub struct Made {
+    pub exists: bool,
+    pub replaced0: u32,
+    pub replaced1: u32,
+}
+
 // Key making, once it is judged: whether h0 has an inverse, and the keys if it has.
-pub fn write(level: u32, seed: &[u8], public_key: &mut [u8], private_key: &mut [u8]) -> bool
+pub fn write(level: u32, seed: &[u8], public_key: &mut [u8], private_key: &mut [u8]) -> Made
     requires { ⌜ firstOf (making-reasons level (now seed) (length (now «public_key»)) (length (now «private_key»))) ≡ 0 ⌝ }
-    ensures { λ r. ⌜ (r ≡ hasInverse (levelOf level .r) (h0Of (levelOf level) (now (seed .entry))))
-        × (r ≡ true → (now («public_key» .exit) ≡ bytesOf (levelOf level .r) (publicOf (levelOf level) (now (seed .entry))))
-        × (now («private_key» .exit) ≡ privateOf (levelOf level) (now (seed .entry)))) ⌝ }
+    ensures { λ made. ⌜ (made .exists ≡ hasInverse (levelOf level .r) (h0Of (levelOf level) (now (seed .entry))))
+        × (made .exists ≡ true → (now («public_key» .exit) ≡ bytesOf (levelOf level .r) (publicOf (levelOf level) (now (seed .entry))))
+        × (now («private_key» .exit) ≡ privateOf (levelOf level) (now (seed .entry))))
+        × (made .replaced0 ≡ h0Replaced (levelOf level) (now (seed .entry)))
+        × (made .replaced1 ≡ h1Replaced (levelOf level) (now (seed .entry))) ⌝ }
 {
     let r = size::block(level);
     let h = both_halves(level, seed);
     let h0 = h.h0;
     let h1 = h.h1;
+    let replaced0 = h.replaced0;
+    let replaced1 = h.replaced1;
     let inverse = invert::invert(r, h0);
     if !inverse.exists {
-        return false;
+        return Made {
+            exists: false,
+            replaced0,
+            replaced1,
+        };
     }
     let value = inverse.value;
     words::store(multiply::multiply(r, h1, value), public_key);
-    write_private(level, h, &seed[32..], private_key);
-    true
+    write_private(level, KeyWords { h0, h1 }, &seed[32..], private_key);
+    Made {
+        exists: true,
+        replaced0,
+        replaced1,
+    }
 }

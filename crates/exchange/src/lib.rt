@@ -17,34 +17,66 @@ mod wrapping;
 use hashing::refuse;
 pub use record::read_record;
 ghost use lib.ListN.{length};
-ghost use Rattle.exchange.specs.Promises.{ErrorOfPromise, MakeKeyPromise, WrapPromise, DecodePromise, OpenPromise};
+ghost use Rattle.exchange.specs.Promises.{ErrorOfPromise, ErrorCountPromise, MakeKeyPromise, KeyCountPromise, WrapPromise, DecodePromise, OpenPromise};
 
-// H: the error of a message.
-pub fn error_of(level: u32, message: &[u8], e0: &mut [u8], e1: &mut [u8]) -> u32
+pub struct ErrorAnswer {
+    pub answer: u32,
+    pub replaced: u32,
+}
+
+// H: the error of a message, and how many of its positions were replaced.
+pub fn error_of(level: u32, message: &[u8], e0: &mut [u8], e1: &mut [u8]) -> ErrorAnswer
     ensures { λ r. ⌜ ErrorOfPromise level (now (message .entry)) (length (now (e0 .entry))) (length (now (e1 .entry)))
-        r (now (e0 .exit)) (now (e1 .exit)) ⌝ }
+        (r .answer) (now (e0 .exit)) (now (e1 .exit)) ⌝ }
+    ensures { λ r. ⌜ ErrorCountPromise level (now (message .entry)) (length (now (e0 .entry))) (length (now (e1 .entry))) (r .replaced) ⌝ }
 {
     let answer = judge::error(level, message, e0.len(), e1.len());
     if answer != 0 {
-        return refuse::two(answer, e0, e1);
+        return ErrorAnswer {
+            answer: refuse::two(answer, e0, e1),
+            replaced: 0,
+        };
     }
-    error::hash_h(level, message, e0, e1);
-    0
+    ErrorAnswer {
+        answer: 0,
+        replaced: error::hash_h(level, message, e0, e1),
+    }
 }
 
-// Key making: a public and a private key from a seed.
-pub fn make_key(level: u32, seed: &[u8], public_key: &mut [u8], private_key: &mut [u8]) -> u32
+pub struct KeyAnswer {
+    pub answer: u32,
+    pub replaced0: u32,
+    pub replaced1: u32,
+}
+
+// Key making: a public and a private key from a seed, and how many positions of h0 and of h1 were replaced.
+pub fn make_key(level: u32, seed: &[u8], public_key: &mut [u8], private_key: &mut [u8]) -> KeyAnswer
     ensures { λ r. ⌜ MakeKeyPromise level (now (seed .entry)) (length (now («public_key» .entry))) (length (now («private_key» .entry)))
-        r (now («public_key» .exit)) (now («private_key» .exit)) ⌝ }
+        (r .answer) (now («public_key» .exit)) (now («private_key» .exit)) ⌝ }
+    ensures { λ r. ⌜ KeyCountPromise level (now (seed .entry)) (length (now («public_key» .entry))) (length (now («private_key» .entry)))
+        (r .replaced0) (r .replaced1) ⌝ }
 {
     let answer = judge::making(level, seed, public_key.len(), private_key.len());
     if answer != 0 {
-        return refuse::two(answer, public_key, private_key);
+        return KeyAnswer {
+            answer: refuse::two(answer, public_key, private_key),
+            replaced0: 0,
+            replaced1: 0,
+        };
     }
-    if !keys::write(level, seed, public_key, private_key) {
-        return refuse::two(5, public_key, private_key);
+    let made = keys::write(level, seed, public_key, private_key);
+    if !made.exists {
+        return KeyAnswer {
+            answer: refuse::two(5, public_key, private_key),
+            replaced0: 0,
+            replaced1: 0,
+        };
     }
-    0
+    KeyAnswer {
+        answer: 0,
+        replaced0: made.replaced0,
+        replaced1: made.replaced1,
+    }
 }
 
 // Wrapping: a ciphertext and a session key from a public key and a message.

@@ -83,7 +83,7 @@ fn write_session_key(
     ensures { λ r. ⌜ (r ≡ 0) × (now (out .exit) ≡ keyFor (levelOf level) (now (sigma .entry)) (now (ciphertext .entry)) (record { half0 = bits 64 e0; half1 = bits 64 e1 })) ⌝ }
 {
     let m = message_of(level, error::stored(level, e0, e1), ciphertext);
-    let again = error::words_of(level, &m);
+    let again = error::words_of(level, &m).words;
     let differing = differences(level, e0, e1, again);
     let secret = chosen(differing, m, sigma);
     wrapping::write_key(&secret, ciphertext, out);

@@ -33,7 +33,8 @@ fn addends_of(level: u32, h: [u64; WORDS], message: &[u8]) -> Addends
         × (bits 64 (a .product) ≡ mul (levelOf level .r) (hashH (levelOf level) (now (message .entry)) .half1) (bits 64 h)) ⌝ }
 {
     let t = size::error_weight(level);
-    let list = error::positions(level, message);
+    let sampled = error::positions(level, message);
+    let list = sampled.list;
     let e = error::halves(level, &list[..t]);
     let product = sparse_upper(size::block(level), &list, t, h);
     let e0 = e.e0;

@@ -7,7 +7,8 @@ use Prim.Native.Nat.{ℕ, zero, suc, _<_}
 use native.Mathlib.Omega.{arith}
 use borrow.Author.Tests.{eqb-true, not-false}
 use lib.Dec.{eqb}
-use Rattle.hashing.specs.Answers.{Reason, Output, Outcome, differs, firstOf, zeros, content, settle}
+use lib.ListN.{length, replicate}
+use Rattle.hashing.specs.Answers.{Reason, Output, Outcome, differs, firstOf, zeros, content, settle, reported}
 use Rattle.hashing.specs.Answers.Outcome.{gives}
 
 -- lengths that do not differ
@@ -31,6 +32,20 @@ module _ (reasons : List Reason) (outputs : List Output) where
   refused {answer} first some = rw (← first) (go answer some)
     where
       go : (n : ℕ) → (n ≡ 0 → ⊥) → gives n (map (content n) outputs) ≡ gives n (map zeros outputs)
+      go zero some = absurd (some refl)
+      go (suc n) some = refl
+
+  -- and what is then reported
+  pub done-reports : (numbers : List ℕ) → firstOf reasons ≡ 0 → reported (settle reasons outputs) numbers ≡ numbers
+  unfolding settle content reported
+  done-reports numbers none = rw none
+
+  pub refused-reports : (numbers : List ℕ) {answer : ℕ} → answer ≡ firstOf reasons → (answer ≡ 0 → ⊥)
+      → reported (settle reasons outputs) numbers ≡ replicate (length numbers) 0
+  unfolding settle content reported
+  refused-reports numbers {answer} first some = rw (← first) (go answer some)
+    where
+      go : (n : ℕ) → (n ≡ 0 → ⊥) → content n (record { room = length numbers; value = numbers }) ≡ replicate (length numbers) 0
       go zero some = absurd (some refl)
       go (suc n) some = refl
 
@@ -116,3 +131,15 @@ pub two-outputs : {said : Outcome} {r r′ : ℕ} {out out′ other other′ : L
     → gives r (out ∷ other ∷ []) ≡ said → gives r′ (out′ ∷ other′ ∷ []) ≡ said
     → (r ≡ r′) × (out ≡ out′) × (other ≡ other′)
 two-outputs p q = let same = one-outcome p q in (same .0, cc, cc)
+
+pub three-outputs : {said : Outcome} {r r′ : ℕ} {out out′ other other′ third third′ : List ℕ}
+    → gives r (out ∷ other ∷ third ∷ []) ≡ said → gives r′ (out′ ∷ other′ ∷ third′ ∷ []) ≡ said
+    → (r ≡ r′) × (out ≡ out′) × (other ≡ other′) × (third ≡ third′)
+three-outputs p q = let same = one-outcome p q in (same .0, cc, cc, cc)
+
+-- numbers that are reported
+pub one-number : {said : List ℕ} {n n′ : ℕ} → n ∷ [] ≡ said → n′ ∷ [] ≡ said → n ≡ n′
+one-number p q = cc
+
+pub two-numbers : {said : List ℕ} {n n′ k k′ : ℕ} → n ∷ k ∷ [] ≡ said → n′ ∷ k′ ∷ [] ≡ said → (n ≡ n′) × (k ≡ k′)
+two-numbers p q = (cc, cc)

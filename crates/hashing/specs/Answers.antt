@@ -4,7 +4,7 @@ use mathlib.Core.Bool.{Bool, true, false, not}
 use mathlib.Core.List.{List, [], _∷_, map}
 use Prim.Native.Nat.{ℕ, zero, suc}
 use lib.Dec.{eqb}
-use lib.ListN.{replicate}
+use lib.ListN.{length, replicate}
 
 -- a number of document 01's table, and whether it applies
 pub record Reason : Type 0 where
@@ -39,3 +39,7 @@ content (suc refusal) output = zeros output
 
 unfoldable pub settle : List Reason → List Output → Outcome
 settle reasons outputs = gives (firstOf reasons) (map (content (firstOf reasons)) outputs)
+
+-- the numbers that an entry reports beside its outputs: zeros, as many, where it refuses
+unfoldable pub reported : Outcome → List ℕ → List ℕ
+reported (gives answer contents) numbers = content answer (record { room = length numbers; value = numbers })

@@ -20,3 +20,16 @@ pub fn two(number: u32, out0: &mut [u8], out1: &mut [u8]) -> u32
     zero(out1);
     number
 }
+
+pub fn three(number: u32, out0: &mut [u8], out1: &mut [u8], out2: &mut [u8]) -> u32
+    ensures { λ r.
+        ⌜ (r ≡ number)
+        × (now (out0 .exit) ≡ replicate (length (now (out0 .entry))) 0)
+        × (now (out1 .exit) ≡ replicate (length (now (out1 .entry))) 0)
+        × (now (out2 .exit) ≡ replicate (length (now (out2 .entry))) 0) ⌝ }
+{
+    zero(out0);
+    zero(out1);
+    zero(out2);
+    number
+}

@@ -44,16 +44,16 @@ says : (c : tie.After-make-key) →
     let given = c .before .before .before .before .before .before .before .before .before .before .before .before .before .args in
     let public = c .make-key .last .1 .1 .0 in
     let private = c .make-key .last .1 .1 .1 .0 in
-    gives (c .make-key .result) (public ∷ private ∷ []) ≡ make-key-says (given .level) (given .seed .now) (length public) (length private)
+    gives (c .make-key .result .answer) (public ∷ private ∷ []) ≡ make-key-says (given .level) (given .seed .now) (length public) (length private)
 says c =
     let given = c .before .before .before .before .before .before .before .before .before .before .before .before .before .args in
-    c .make-key .ensures ∙ sym (ap₂ (make-key-says (given .level) (given .seed .now)) (c .make-key .kept .1 .1 .0) (c .make-key .kept .1 .1 .1 .0))
+    c .make-key .ensures .0 ∙ sym (ap₂ (make-key-says (given .level) (given .seed .now)) (c .make-key .kept .1 .1 .0) (c .make-key .kept .1 .1 .1 .0))
 
 made-or-not : (c : tie.After-make-key) →
     let given = c .before .before .before .before .before .before .before .before .before .before .before .before .before .args in
     let l = levelOf (given .level) in
     let there = hasInverse (l .r) (h0Of l (given .seed .now)) in
-    ((there ≡ true) × (c .make-key .result ≡ 0)) ⊎ ((there ≡ false) × (c .make-key .result ≡ 5))
+    ((there ≡ true) × (c .make-key .result .answer ≡ 0)) ⊎ ((there ≡ false) × (c .make-key .result .answer ≡ 5))
 made-or-not c =
     let start = c .before .before .before .before .before .before .before .before .before .before .before .before .before in
     let is = Laws.clear-of (start .pre) in
@@ -70,7 +70,7 @@ returns : tie.Need-returns
 returns c =
     let refused = c .before .before .before .before in
     let tested = refused .before .before .before in
-    let keys = tested .before .before .before in
+    let keys = tested .before .before .before .before in
     let start = keys .before .before .before .before .before .before .before .before .before .before .before .before .before in
     let none = Laws.unmade (made-or-not keys) (tested .if1 .taken) in
     let answer = refused .two .ensures .0 ∙ none .1 in (
@@ -81,11 +81,11 @@ returns c =
 
 -- the keys that were made are a pair of our own
 pair : (c : tie.Else1) →
-    let keys = c .before .before .before in
+    let keys = c .before .before .before .before in
     let given = keys .before .before .before .before .before .before .before .before .before .before .before .before .before .args in
     FromKeyMaking (given .level) (given .seed .now) (keys .make-key .last .1 .1 .0) (keys .make-key .last .1 .1 .1 .0)
 pair c =
-    let keys = c .before .before .before in
+    let keys = c .before .before .before .before in
     sym (says keys)
     ∙ ap (λ (a : ℕ). gives a (keys .make-key .last .1 .1 .0 ∷ keys .make-key .last .1 .1 .1 .0 ∷ [])) (c .if1 .left)
 
@@ -107,13 +107,13 @@ private-lent c = take-at _ _ _ (private-long c)
 
 -- wrapping gives the message's ciphertext and key
 wrapped : (c : tie.After-wrap) →
-    let keys = c .before .before .before .before .before .before .before in
+    let keys = c .before .before .before .before .before .before .before .before in
     let given = keys .before .before .before .before .before .before .before .before .before .before .before .before .before .args in
     let sent = sentTo (levelOf (given .level)) (given .seed .now) (given .message .now) in
     (c .wrap .result ≡ 0) × (c .wrap .last .1 .1 .1 .0 ≡ sent) × (c .wrap .last .1 .1 .1 .1 .0 ≡ hashK (given .message .now) sent)
 wrapped c =
     let tested = c .before .before .before .before in
-    let keys = tested .before .before .before in
+    let keys = tested .before .before .before .before in
     let made = keys .before .before .before in
     let known = made .before .before .before .before .before .before in
     let start = known .before .before .before .before in
@@ -127,14 +127,14 @@ wrapped c =
     refl
 
 ciphertext-long : (c : tie.After-wrap) →
-    length (c .wrap .last .1 .1 .1 .0) ≡ c .before .before .before .before .before .before .before .before .before .before .before .before .before .ciphertext .result
+    length (c .wrap .last .1 .1 .1 .0) ≡ c .before .before .before .before .before .before .before .before .before .before .before .before .before .before .ciphertext .result
 ciphertext-long c =
     c .wrap .kept .1 .1 .1 .0
-    ∙ length-take-le _ _ (room-ciphertext (c .before .before .before .before .before .before .before .before .before .before))
+    ∙ length-take-le _ _ (room-ciphertext (c .before .before .before .before .before .before .before .before .before .before .before))
 
 -- the ciphertext, lent as the front of its array
 ciphertext-lent : (c : tie.After-wrap) →
-    let made = c .before .before .before .before .before .before .before .before .before .before in
+    let made = c .before .before .before .before .before .before .before .before .before .before .before in
     let k = made .before .before .before .ciphertext .result in
     take k (c .wrap .last .1 .1 .1 .0 ++ drop k (made .no-ciphertext .result)) ≡ c .wrap .last .1 .1 .1 .0
 ciphertext-lent c = take-at _ _ _ (ciphertext-long c)
@@ -142,14 +142,14 @@ ciphertext-lent c = take-at _ _ _ (ciphertext-long c)
 -- and opening what it gives
 opens : (c : tie.After-open) →
     let wrap = c .before .before .before .before .before .before .before in
-    let given = wrap .before .before .before .before .before .before .before .before .before .before .before .before .before .before .before .before .before .before .before .before .args in
+    let given = wrap .before .before .before .before .before .before .before .before .before .before .before .before .before .before .before .before .before .before .before .before .before .args in
     let l = levelOf (given .level) in
     let sent = sentTo l (given .seed .now) (given .message .now) in
     (c .«open» .result ≡ 0) × (c .«open» .last .1 .1 .1 .0 ≡ opened bgf l (privateOf l (given .seed .now)) sent)
 opens c =
     let wrap = c .before .before .before .before .before .before .before in
     let tested = wrap .before .before .before .before in
-    let keys = tested .before .before .before in
+    let keys = tested .before .before .before .before in
     let known = keys .before .before .before .before .before .before .before .before .before in
     let start = known .before .before .before .before in
     let given = start .args in
@@ -165,7 +165,7 @@ returns-2 c =
     let last = c .before .before in
     let wrap = last .before .before .before .before .before .before .before in
     let tested = wrap .before .before .before .before in
-    let keys = tested .before .before .before in
+    let keys = tested .before .before .before .before in
     let known = keys .before .before .before .before .before .before .before .before .before in
     let start = known .before .before .before .before in
     let given = start .args in
@@ -195,16 +195,16 @@ run-spec =
     (λ c. search needs)
     (λ c. search needs)
     returns
-    (λ c. let keys = c .before .before .before in Laws.front-fits (keys .make-key .last .1 .1 .0) _ (public-long keys))
-    (λ c. let keys = c .before .before .before .before in sym (ap length (public-lent keys) ∙ public-long keys))
-    (λ c. room-ciphertext (c .before .before .before .before .before .before .before))
-    (λ c. sym (length-take-le _ _ (room-ciphertext (c .before .before .before .before .before .before .before .before))))
+    (λ c. let keys = c .before .before .before .before in Laws.front-fits (keys .make-key .last .1 .1 .0) _ (public-long keys))
+    (λ c. let keys = c .before .before .before .before .before in sym (ap length (public-lent keys) ∙ public-long keys))
+    (λ c. room-ciphertext (c .before .before .before .before .before .before .before .before))
+    (λ c. sym (length-take-le _ _ (room-ciphertext (c .before .before .before .before .before .before .before .before .before))))
     (λ c κs. search needs)
     (λ c.
-    let keys = c .before .before .before .before .before .before .before .before .before .before in
+    let keys = c .before .before .before .before .before .before .before .before .before .before .before in
     Laws.front-fits (keys .make-key .last .1 .1 .1 .0) _ (private-long keys))
     (λ c.
-    let keys = c .before .before .before .before .before .before .before .before .before .before .before in
+    let keys = c .before .before .before .before .before .before .before .before .before .before .before .before in
     sym (ap length (private-lent keys) ∙ private-long keys))
     (λ c. let wrap = c .before .before .before .before in Laws.front-fits (wrap .wrap .last .1 .1 .1 .0) _ (ciphertext-long wrap))
     (λ c. let wrap = c .before .before .before .before .before in sym (ap length (ciphertext-lent wrap) ∙ ciphertext-long wrap))

@@ -3,7 +3,7 @@ use mathlib.Core.Path.{_≡_, refl, sym, ap, _∙_}
 use mathlib.Core.Bool.{Bool, true, false, _||_, or-assoc, or-false, or-true, false≢true}
 use mathlib.Core.List.{List, [], _∷_, _++_}
 use mathlib.Core.Logic.{⊎-elim}
-use Prim.Native.Nat.{ℕ, zero, suc, _+_, _-_, _*_, _/_, _^_, _≤_, _<_}
+use Prim.Native.Nat.{ℕ, zero, suc, _+_, _-_, _*_, _/_, _^_, _≤_, _<_, zero-le}
 use native.Mathlib.Nat.{le-refl, le-add-right, add-zero, zero-add, mul-lt-mul-of-pos-left, div-lt-iff-lt-mul}
 use native.Mathlib.Numerals.{add-one}
 use native.Mathlib.Omega.{arith}
@@ -12,8 +12,8 @@ use lib.ListN.{length, getD, set, take, length-append}
 use lib.Pow.{pow-pos}
 use lib.Seq.{take-suc-set}
 use borrow.Author.Tests.{eqb-true, eqb-false, eq-eqb, ne-eqb}
-use Rattle.ring.specs.Polynomials.{weight, listed}
-use Rattle.exchange.specs.Sampler.{candidate, appended, sampleBelow, sample}
+use Rattle.ring.specs.Polynomials.{bit, weight, listed}
+use Rattle.exchange.specs.Sampler.{candidate, appended, sampleBelow, sample, replacedBelow}
 use Rattle.ring.proofs.Bools.{both-false, one-true}
 use Rattle.ring.proofs.Upper.{Distinct}
 use Rattle.ring.proofs.Weights.{weight-none, weight-more}
@@ -34,6 +34,14 @@ pub sample-turn : (len : ℕ) (words : List ℕ) (j n : ℕ) (list : List ℕ) (
     → sampleBelow len words j (take (n + 1) (set list n v)) ≡ sampleBelow len words (j + 1) (take n list)
 unfolding sampleBelow
 sample-turn len words j n list v room e = rw (add-one n, add-one j, take-suc-set list n v room, e)
+
+-- and what it adds to the count
+pub replaced-turn : (len : ℕ) (words : List ℕ) (j n : ℕ) (list : List ℕ) (v more : ℕ) → n < length list
+    → take n list ++ (v ∷ []) ≡ appended j (candidate len j (getD words j 0)) (take n list)
+    → more ≡ bit (listed (candidate len j (getD words j 0)) (take n list))
+    → more + replacedBelow len words j (take (n + 1) (set list n v)) ≡ replacedBelow len words (j + 1) (take n list)
+unfolding replacedBelow
+replaced-turn len words j n list v more room e counted = rw (add-one n, add-one j, take-suc-set list n v room, e, counted)
 
 -- ---- the list
 
@@ -94,6 +102,12 @@ length-below : (len : ℕ) (words : List ℕ) (i : ℕ) (list : List ℕ) → le
 unfolding sampleBelow appended
 length-below len words zero list = sym (add-zero (length list))
 length-below len words (suc i) list = length-below len words i _ ∙ rw (length-append list _) (omega arith)
+
+-- a list whose front has n positions has room for them
+pub front-long : (n : ℕ) (list : List ℕ) → length (take n list) ≡ n → n ≤ length list
+front-long zero list e = zero-le
+front-long (suc n) [] e = absurd (omega arith)
+front-long (suc n) (x ∷ list) e = let rest = front-long n list (omega arith) in omega arith
 
 pub sample-length : (len wt : ℕ) (words : List ℕ) → length (sample len wt words) ≡ wt
 unfolding sample

@@ -13,8 +13,11 @@ returns c =
     let second = c .before .before in
     let first = second .before .before .before .before in
     let e = first .before .before .before .before in
-    let start = e .before .before .before .before in
-    (rw (e .words-of .ensures .0, start .pre .0) at (first .store .ensures), rw (e .words-of .ensures .1, start .pre .1) at (second .store2 .ensures))
+    let start = e .before .before .before .before in (
+      rw (e .words-of .ensures .0, start .pre .0) at (first .store .ensures),
+      rw (e .words-of .ensures .1, start .pre .1) at (second .store2 .ensures),
+      e .words-of .ensures .2,
+    )
 
 pub hash-h-spec : {M : Type 1} → statement M
 hash-h-spec =

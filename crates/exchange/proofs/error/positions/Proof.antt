@@ -6,7 +6,7 @@ use lib.ListN.{length, take}
 use lib.Seq.{length-take-le, take-at}
 use borrow.Author.Needs.{needs}
 use Rattle.exchange.specs.Sampler.{sampleError}
-use Rattle.exchange.specs.Scheme.{errorPositions}
+use Rattle.exchange.specs.Scheme.{errorPositions, errorReplaced}
 use Rattle.ring.proofs.Levels.{sizes}
 use Rattle.exchange.proofs.error.positions.Statement.{statement}
 use Rattle.exchange.proofs.error.positions.Tie as tie
@@ -34,15 +34,14 @@ sample-requires c κs =
     rw (words-cut made, room-cut made) (omega (arith, sizes (made .before .before .before .before .before .args .level)))
 
 returns : tie.Need-returns
-unfolding errorPositions sampleError
+unfolding errorPositions errorReplaced sampleError
 returns c =
     let sample = c .before .sample in
     let made = c .before .before .before .before in
     let t = made .before .before .before .error-weight .ensures in
     let stream = rw (← t) at (made .before .stream .ensures) in
-    rw (← t)
-    (take-at _ _ _ (sample .kept .1 .1 .0 ∙ room-cut made)
-    ∙ rw (room-cut made, made .before .before .block .ensures, stream) at (sample .ensures))
+    let is = rw (room-cut made, made .before .before .block .ensures, stream) at (sample .ensures) in
+    rw (← t) (take-at _ _ _ (sample .kept .1 .1 .0 ∙ room-cut made) ∙ is .0, is .1)
 
 pub positions-spec : {M : Type 1} → statement M
 positions-spec =

@@ -6,7 +6,7 @@ use lib.ListN.{length, take, drop}
 use lib.Seq.{length-take-le}
 use borrow.Author.Needs.{needs}
 use Rattle.ring.specs.Levels.{levelOf}
-use Rattle.exchange.specs.Scheme.{keyStream, h0Of, h1Of}
+use Rattle.exchange.specs.Scheme.{keyStream, h0Of, h1Of, h0Replaced, h1Replaced}
 use Rattle.ring.proofs.Levels.{sizes}
 use Rattle.exchange.proofs.Parts.{drop-take}
 use Rattle.exchange.proofs.keys.both_halves.Statement.{statement}
@@ -42,12 +42,13 @@ part-half-end : tie.Need-part-half-end
 part-half-end c = room (c .before .before .before)
 
 returns : tie.Need-returns
-unfolding h0Of h1Of
+unfolding h0Of h1Of h0Replaced h1Replaced
 returns c =
-    let stream = c .before .before .before .before .before in (
-      rw (words stream) at (c .before .before .before .half .ensures),
-      rw (rest stream) at (c .half2 .ensures),
-    )
+    let last = c .before .before in
+    let stream = last .before .before .before .before .before in
+    let first = rw (words stream) at (last .before .before .before .half .ensures) in
+    let second = rw (rest stream) at (last .half2 .ensures) in
+    (first .0, second .0, first .1, second .1)
 
 pub both-halves-spec : {M : Type 1} → statement M
 both-halves-spec =

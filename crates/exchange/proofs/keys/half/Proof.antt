@@ -12,23 +12,24 @@ use Rattle.ring.specs.inner.Sizes.{words}
 use Rattle.ring.proofs.Levels.{sizes}
 use Rattle.exchange.specs.Sampler.{sampleKey}
 use Rattle.exchange.proofs.Streams.{words-below}
-use Rattle.exchange.proofs.sampler.Laws.{sample-below}
+use Rattle.exchange.proofs.sampler.Laws.{front-long, sample-length, sample-below}
 use Rattle.exchange.proofs.keys.half.Statement.{statement}
 use Rattle.exchange.proofs.keys.half.Tie as tie
 
-room : (c : tie.After-sampled) → c .before .key-weight .result ≤ length (c .sampled .result)
-room c = omega (arith, sizes (c .before .before .before .args .level))
+room : (c : tie.After-list) → c .before .before .key-weight .result ≤ length (c .before .sampled .result .list)
+unfolding sampleKey
+room c = rw (c .before .before .key-weight .ensures) (front-long _ _ (ap length (c .before .sampled .ensures .0) ∙ sample-length _ _ _))
 
 listed-is : (c : tie.After-sampled) →
     let given = c .before .before .before .args in
     let l = levelOf (given .level) in
-    take (c .before .key-weight .result) (c .sampled .result) ≡ sampleKey (l .r) (l .d) (numbers 4 (l .d) (given .stream .now))
-listed-is c = rw (c .before .key-weight .ensures) (c .sampled .ensures)
+    take (c .before .key-weight .result) (c .sampled .result .list) ≡ sampleKey (l .r) (l .d) (numbers 4 (l .d) (given .stream .now))
+listed-is c = rw (c .before .key-weight .ensures) (c .sampled .ensures .0)
 
 place-requires : tie.Need-place-requires
 unfolding sampleKey
 place-requires c κs =
-    let made = c .before .before .before in
+    let made = c .before .before .before .before in
     let known = made .before .before in
     let given = known .before .args in
     let l = levelOf (given .level) in
@@ -41,7 +42,9 @@ place-requires c κs =
 returns : tie.Need-returns
 unfolding support
 returns c =
-    let placed = c .before in rw (listed-is (placed .before .before .before .before)) at (placed .place .ensures)
+    let placed = c .before in
+    let made = placed .before .before .before .before .before in
+    (rw (listed-is made) at (placed .place .ensures), made .sampled .ensures .1)
 
 pub half-spec : {M : Type 1} → statement M
 half-spec =

@@ -27,9 +27,8 @@ unfolding sampleKey
 returns c =
     let sample = c .before .sample in
     let made = c .before .before .before .before in
-    rw (← made .before .key-weight .ensures)
-    (take-at _ _ _ (sample .kept .1 .1 .0 ∙ cut made)
-    ∙ rw (cut made, c .before .before .before .block .ensures) at (sample .ensures))
+    let is = rw (cut made, c .before .before .before .block .ensures) at (sample .ensures) in
+    rw (← made .before .key-weight .ensures) (take-at _ _ _ (sample .kept .1 .1 .0 ∙ cut made) ∙ is .0, is .1)
 
 pub sampled-spec : {M : Type 1} → statement M
 sampled-spec =

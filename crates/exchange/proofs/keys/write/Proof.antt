@@ -42,7 +42,12 @@ found c =
 returns : tie.Need-returns
 returns c =
     let inverted = c .before .before in
-    (sym (not-true (inverted .invert .result .exists) (c .if1 .taken)) ∙ found inverted .0, λ made. absurd (true≢false (sym made)))
+    let counted = inverted .before .before .before .both-halves .ensures in (
+      sym (not-true (inverted .invert .result .exists) (c .if1 .taken)) ∙ found inverted .0,
+      λ made. absurd (true≢false (sym made)),
+      counted .2,
+      counted .3,
+    )
 
 -- there is an inverse, and it is the value
 there : (c : tie.Else1) →
@@ -111,7 +116,7 @@ returns-2 c =
     let product = rw (halves .before .block .ensures, halves .both-halves .ensures .1, value else) at (multiplied .multiply .ensures) in
     let public = rw (product, judged start .publicRoom) at (stored .store .ensures) in
     let private = rw (halves .both-halves .ensures .0, halves .both-halves .ensures .1, rest-all 32 (start .args .seed .now)) at (wrote .write-private .ensures) in
-    (sym (there else), λ made. (public, private))
+    (sym (there else), λ made. (public, private), halves .both-halves .ensures .2, halves .both-halves .ensures .3)
 
 pub write-spec : {M : Type 1} → statement M
 write-spec =

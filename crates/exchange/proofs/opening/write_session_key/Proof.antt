@@ -31,21 +31,21 @@ message-of-requires c κs =
 
 differences-requires : tie.Need-differences-requires
 differences-requires c κs =
-    let made = c .before .before in
+    let made = c .before .before .before in
     let start = made .before .before .before .before .before in
     let l = levelOf (start .args .level) in
     let m = made .message-of .result in
-    ((start .pre .1 .0, start .pre .1 .1), (rw (c .words-of .ensures .0) (error-in0 l m), rw (c .words-of .ensures .1) (error-in1 l m)))
+    ((start .pre .1 .0, start .pre .1 .1), (rw (c .before .words-of .ensures .0) (error-in0 l m), rw (c .before .words-of .ensures .1) (error-in1 l m)))
 
 chosen-requires : tie.Need-chosen-requires
 unfolding xorBytes
 chosen-requires c κs =
-    let made = c .before .before .before in
+    let made = c .before .before .before .before in
     let start = made .before .before .before .before .before in
     let bounds = sizes (start .args .level) in
     let r = levelOf (start .args .level) .r in
-    let few0 = weight-le r (add (bits 64 (start .args .e0)) (bits 64 (c .before .words-of .result .e0))) in
-    let few1 = weight-le r (add (bits 64 (start .args .e1)) (bits 64 (c .before .words-of .result .e1))) in
+    let few0 = weight-le r (add (bits 64 (start .args .e0)) (bits 64 (c .before .before .words-of .result .words .e0))) in
+    let few1 = weight-le r (add (bits 64 (start .args .e1)) (bits 64 (c .before .before .words-of .result .words .e1))) in
     (omega (arith, c .differences .ensures), ap length (made .message-of .ensures) ∙ length-tab messageBytes _, start .pre .0 .0)
 
 message : (c : tie.After-message-of) →
@@ -55,16 +55,16 @@ unfolding messageOf hashL
 message c = rw (c .before .stored .ensures .0, c .before .stored .ensures .1) at (c .message-of .ensures)
 
 own : (c : tie.After-differences) →
-    let start = c .before .before .before .before .before .before .before .before in
+    let start = c .before .before .before .before .before .before .before .before .before in
     let l = levelOf (start .args .level) in
     eqb (c .differences .result) 0
-    ≡ sameError (l .r) (errorIn (start .args .e0) (start .args .e1)) (hashH l (c .before .before .before .message-of .result))
+    ≡ sameError (l .r) (errorIn (start .args .e0) (start .args .e1)) (hashH l (c .before .before .before .before .message-of .result))
 own c =
-    let start = c .before .before .before .before .before .before .before .before in
+    let start = c .before .before .before .before .before .before .before .before .before in
     let l = levelOf (start .args .level) in
-    let again = c .before .words-of .ensures in
+    let again = c .before .before .words-of .ensures in
     rw (c .differences .ensures, again .0, again .1)
-    (nothing-differs (l .r) (errorIn (start .args .e0) (start .args .e1)) (hashH l (c .before .before .before .message-of .result)))
+    (nothing-differs (l .r) (errorIn (start .args .e0) (start .args .e1)) (hashH l (c .before .before .before .before .message-of .result)))
 
 returns : tie.Need-returns
 unfolding keyFor
@@ -72,7 +72,7 @@ returns c =
     let written = c .before .before in
     let chosen = written .before .before .before in
     let compared = chosen .before in
-    let made = compared .before .before .before in
+    let made = compared .before .before .before .before in
     let given = made .before .before .before .before .before .args in
     let l = levelOf (given .level) in
     let e = errorIn (given .e0) (given .e1) in (

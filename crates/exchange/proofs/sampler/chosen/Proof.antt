@@ -1,4 +1,5 @@
--- `chosen` is what is appended.
+-- `chosen` is what is appended, and whether it replaces.
+use native.Mathlib.Omega.{arith}
 use borrow.Author.Needs.{needs}
 use Rattle.exchange.specs.Sampler.{appended}
 use Rattle.exchange.proofs.sampler.chosen.Statement.{statement}
@@ -10,5 +11,5 @@ chosen-spec =
     tie.close
     (tie.spec
     (λ c κs. search needs)
-    (λ c. rw (← c .before .listed .ensures, c .if1 .taken))
-    (λ c. rw (← c .before .listed .ensures, c .if1 .left)))
+    (λ c. (rw (← c .before .listed .ensures, c .if1 .taken), rw (← c .before .listed .ensures, c .if1 .taken), omega arith))
+    (λ c. (rw (← c .before .listed .ensures, c .if1 .left), rw (← c .before .listed .ensures, c .if1 .left), omega arith)))
