@@ -25,19 +25,56 @@ fn outputs(number: u8) -> u8 {
     }
 }
 
-fn called(number: u8, level: u32, a: &[u8], b: &[u8], out0: &mut [u8], out1: &mut [u8]) -> u32 {
+// An entry's answer, and the numbers that it reports.
+struct Said {
+    answer: u32,
+    reported: u8,
+    first: u32,
+    second: u32,
+}
+
+fn silent(answer: u32) -> Said {
+    Said {
+        answer,
+        reported: 0,
+        first: 0,
+        second: 0,
+    }
+}
+
+fn error_of(level: u32, message: &[u8], e0: &mut [u8], e1: &mut [u8]) -> Said {
+    let counted = exchange::error_of(level, message, e0, e1);
+    Said {
+        answer: counted.answer,
+        reported: 1,
+        first: counted.replaced,
+        second: 0,
+    }
+}
+
+fn make_key(level: u32, seed: &[u8], public_key: &mut [u8], private_key: &mut [u8]) -> Said {
+    let counted = exchange::make_key(level, seed, public_key, private_key);
+    Said {
+        answer: counted.answer,
+        reported: 2,
+        first: counted.replaced0,
+        second: counted.replaced1,
+    }
+}
+
+fn called(number: u8, level: u32, a: &[u8], b: &[u8], out0: &mut [u8], out1: &mut [u8]) -> Said {
     match number {
-        1 => hashing::shake256(a, out0),
-        2 => hashing::sha3_384(a, out0),
-        3 => ring::product(level, a, b, out0),
-        4 => ring::inverse(level, a, out0),
-        5 => exchange::error_of(level, a, out0, out1),
-        6 => exchange::decode(level, a, b, out0, out1),
-        7 => exchange::make_key(level, a, out0, out1),
-        8 => exchange::wrap(level, a, b, out0, out1),
-        9 => exchange::open(level, a, b, out0),
-        11 => packing::pack(level, a, out0),
-        _ => packing::unpack(level, a, out0),
+        1 => silent(hashing::shake256(a, out0)),
+        2 => silent(hashing::sha3_384(a, out0)),
+        3 => silent(ring::product(level, a, b, out0)),
+        4 => silent(ring::inverse(level, a, out0)),
+        5 => error_of(level, a, out0, out1),
+        6 => silent(exchange::decode(level, a, b, out0, out1)),
+        7 => make_key(level, a, out0, out1),
+        8 => silent(exchange::wrap(level, a, b, out0, out1)),
+        9 => silent(exchange::open(level, a, b, out0)),
+        11 => silent(packing::pack(level, a, out0)),
+        _ => silent(packing::unpack(level, a, out0)),
     }
 }
 
@@ -86,15 +123,21 @@ fn print_record(bytes: &[u8]) {
     }
 }
 
-// The answer of an entry with outputs, and what they hold.
+// The answer of an entry with outputs, what they hold, and the numbers.
 fn print_answer(number: u8, level: u32, a: &[u8], b: &[u8], out0: &mut [u8], out1: &mut [u8]) {
     mark(out0);
     mark(out1);
-    let answer = called(number, level, a, b, out0, out1);
-    print_field(answer as u64);
+    let said = called(number, level, a, b, out0, out1);
+    print_field(said.answer as u64);
     print_out(out0);
     if outputs(number) == 2 {
         print_out(out1);
+    }
+    if 0 < said.reported {
+        print_field(said.first as u64);
+    }
+    if 1 < said.reported {
+        print_field(said.second as u64);
     }
 }
 
