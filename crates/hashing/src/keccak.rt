@@ -1,79 +1,169 @@
 // Keccak-f[1600], FIPS 202 section 3, on 25 lanes: lane (x, y) is element 5y + x.
 ghost use mathlib.Core.Path.{_≡_};
-ghost use Prim.Native.Nat.{_+_, _/_, _%_, _<_};
+ghost use Prim.Native.Nat.{_+_, _-_, _*_, _/_, _%_, _^_, _<_};
 ghost use lib.Bits.{bitAnd, bitXor};
 ghost use lib.ListN.{getD};
 ghost use Rattle.hashing.specs.Keccak.{lane, plane, rotate, complement, parityC, effectD, theta, offset, rho, pi, chi, roundConstant, iota, keccakF};
 ghost use Rattle.hashing.specs.Lists.{tab};
+ghost use Rattle.hashing.specs.inner.Constants.{Steps, Begins, ConstantOf, Stands, Goes};
 
-const ROUND_CONSTANTS: [u64; 24] = [
-    0x0000000000000001,
-    0x0000000000008082,
-    0x800000000000808a,
-    0x8000000080008000,
-    0x000000000000808b,
-    0x0000000080000001,
-    0x8000000080008081,
-    0x8000000000008009,
-    0x000000000000008a,
-    0x0000000000000088,
-    0x0000000080008009,
-    0x000000008000000a,
-    0x000000008000808b,
-    0x800000000000008b,
-    0x8000000000008089,
-    0x8000000000008003,
-    0x8000000000008002,
-    0x8000000000000080,
-    0x000000000000800a,
-    0x800000008000000a,
-    0x8000000080008081,
-    0x8000000000008080,
-    0x0000000080000001,
-    0x8000000080008008,
-];
+// 3.2.5, algorithm 5, one turn of step 3 on the register R as a number, bit i of which is R[i].
+fn stepped(register: u64) -> u64
+    requires { ⌜ register < 256 ⌝ }
+    ensures { λ r. ⌜ Steps 1 register r ⌝ }
+{
+    let long = 2 * register; // a: R = 0 || R
+    let last = long / 256; // R[8]
+    (long ^ last ^ (last << 4) ^ (last << 5) ^ (last << 6)) % 256 // b to f
+}
 
-const OFFSETS: [u32; 25] = [
-    0,
-    1,
-    62,
-    28,
-    27,
-    36,
-    44,
-    6,
-    55,
-    20,
-    3,
-    10,
-    43,
-    25,
-    39,
-    41,
-    45,
-    15,
-    21,
-    8,
-    18,
-    2,
-    61,
-    56,
-    14,
-];
+// Here and below the loops have few turns and start from known numbers, so that the compiler works all of them out.
+fn seven_steps(before: u64) -> u64
+    requires { ⌜ before < 256 ⌝ }
+    ensures { λ r. ⌜ Steps 7 before r ⌝ }
+{
+    let mut register = before;
+    let mut i = 0usize;
+    while i < 7 {
+        register = stepped(register);
+        i += 1;
+    }
+    register
+}
+
+// The register after the 7i steps that come before round i; step 2 of algorithm 5 begins at 10000000.
+fn register(i: usize) -> u64
+    ensures { λ r. ⌜ Begins i r ⌝ }
+{
+    let mut register = 1;
+    let mut round = 0;
+    while round < i {
+        register = seven_steps(register);
+        round += 1;
+    }
+    register
+}
+
+// R[0] as bit 2^j - 1 of a constant.
+fn placed(register: u64, j: usize) -> u64
+    requires { ⌜ j < 7 ⌝ }
+    ensures { λ r. ⌜ r ≡ register % 2 * 2 ^ (2 ^ j - 1) ⌝ }
+{
+    (register % 2) << ((1usize << j) - 1)
+}
+
+// Algorithm 6, steps 2 and 3, for the round that begins with this register: bit 2^j - 1 is R[0] after j steps.
+fn constant(begins: u64) -> u64
+    requires { ⌜ begins < 256 ⌝ }
+    ensures { λ r. ⌜ ConstantOf begins r ⌝ }
+{
+    let mut constant = 0;
+    let mut register = begins;
+    let mut j = 0;
+    while j < 7 {
+        constant += placed(register, j);
+        register = stepped(register);
+        j += 1;
+    }
+    constant
+}
 
 // The constant of each round (3.2.5).
 fn round_constants() -> [u64; 24]
     ensures { λ r. ⌜ r ≡ tab 24 roundConstant ⌝ }
 {
-    ROUND_CONSTANTS
+    [
+        constant(register(0)),
+        constant(register(1)),
+        constant(register(2)),
+        constant(register(3)),
+        constant(register(4)),
+        constant(register(5)),
+        constant(register(6)),
+        constant(register(7)),
+        constant(register(8)),
+        constant(register(9)),
+        constant(register(10)),
+        constant(register(11)),
+        constant(register(12)),
+        constant(register(13)),
+        constant(register(14)),
+        constant(register(15)),
+        constant(register(16)),
+        constant(register(17)),
+        constant(register(18)),
+        constant(register(19)),
+        constant(register(20)),
+        constant(register(21)),
+        constant(register(22)),
+        constant(register(23)),
+    ]
 }
 
-// How far ρ turns a lane (3.2.2).
+// 3.2.2, algorithm 2: where the walk over the lanes stands at step t, and how far its steps before t turn the lane
+// that is asked for.
+struct Walk {
+    x: usize,
+    y: usize,
+    t: u32,
+    turn: u32,
+}
+
+// Step 3a turns the lane that is met by (t + 1)(t + 2) / 2; step 3b goes on from (x, y) to (y, (2x + 3y) mod 5).
+fn walked(walk: Walk, place: usize) -> Walk
+    requires { ⌜ Stands place walk ⌝ ∗ ⌜ walk .t < 24 ⌝ }
+    ensures { λ r. ⌜ Goes 1 place walk r ⌝ }
+{
+    let x = walk.x;
+    let y = walk.y;
+    let t = walk.t;
+    let next = (2 * x + 3 * y) % 5;
+    if 5 * y + x == place {
+        return Walk {
+            x: y,
+            y: next,
+            t: t + 1,
+            turn: (t + 1) * (t + 2) / 2 % 64,
+        };
+    }
+    Walk {
+        x: y,
+        y: next,
+        t: t + 1,
+        turn: walk.turn,
+    }
+}
+
+fn six_walked(before: Walk, place: usize) -> Walk
+    requires { ⌜ Stands place before ⌝ ∗ ⌜ before .t < 19 ⌝ }
+    ensures { λ r. ⌜ Goes 6 place before r ⌝ }
+{
+    let mut walk = before;
+    let mut i = 0usize;
+    while i < 6 {
+        walk = walked(walk, place);
+        i += 1;
+    }
+    walk
+}
+
+// How far ρ turns a lane (3.2.2): the walk of 24 steps, which meets every lane but (0, 0).
 fn turn(place: usize) -> u32
     requires { ⌜ place < 25 ⌝ }
     ensures { λ r. ⌜ r ≡ offset (place % 5) (place / 5) ⌝ }
 {
-    OFFSETS[place]
+    let mut walk = Walk {
+        x: 1,
+        y: 0,
+        t: 0,
+        turn: 0,
+    };
+    let mut i = 0usize;
+    while i < 4 {
+        walk = six_walked(walk, place);
+        i += 1;
+    }
+    walk.turn
 }
 
 // Two shifts to the right, since one by 64 is not allowed.
