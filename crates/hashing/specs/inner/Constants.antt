@@ -11,7 +11,7 @@ use Rattle.hashing.specs.Lists.{tab}
 unfoldable pub digits : ℕ → List ℕ
 digits r = tab 8 (λ i. r / 2 ^ i % 2)
 
--- FIPS 202, 3.2.5, algorithm 5, step 3 on such a number: 2r is a's longer register, and its R[8] is added at 0, 4, 5 and 6
+-- FIPS 202, 3.2.5, algorithm 5, step 3 on such a number: 2r is a's longer register, whose R[8] is added at 0, 4, 5, 6
 unfoldable pub fedBack : ℕ → ℕ → ℕ
 fedBack long last = bitXor (bitXor (bitXor (bitXor long last) (last * 2 ^ 4)) (last * 2 ^ 5)) (last * 2 ^ 6) % 256
 
