@@ -1,5 +1,5 @@
 -- What key making, wrapping and opening in turn come to, from what each promises. Assumes nothing.
-use mathlib.Core.Path.{_≡_, refl, sym, ap, _∙_}
+use mathlib.Core.Path.{_≡_, refl, sym, ap, ap₂, _∙_}
 use mathlib.Core.Bool.{Bool, true, false, not}
 use mathlib.Core.List.{List, [], _∷_, _++_}
 use mathlib.Core.Logic.{_⊎_, inl, inr}
@@ -22,11 +22,11 @@ use Rattle.exchange.specs.Fits.{FromKeyMaking, Bytes, WellFormed, Fits, Fitting
 use Rattle.exchange.specs.Opening.{opened}
 use Rattle.exchange.specs.decoder.Decoder.{bgf}
 use Rattle.exchange.specs.Promises.{MakeKeyPromise, making-reasons, make-key-says, wrap-says, open-says}
-use Rattle.exchange.specs.Scheme.{hashK, h0Of, publicOf, privateOf, wrapped}
+use Rattle.exchange.specs.Scheme.{keyDigest, hashK, h0Of, publicOf, privateOf, wrapped}
 use Rattle.exchange.proofs.Demand.{wrapped-well-formed}
 use Rattle.exchange.proofs.Judged.{MakingClear, making-none, making-numbered}
 use Rattle.exchange.proofs.Pairs.{made-of, wraps, opens, demand-3}
-use Rattle.both_ends.specs.BothEnds.{sentTo, both-ends-reasons, both-ends-says, BothEndsPromise, Finds, Agree}
+use Rattle.both_ends.specs.BothEnds.{digestOf, sentTo, both-ends-reasons, both-ends-says, BothEndsPromise, Finds, Agree}
 
 -- a front is not longer than the whole
 pub front-fits : (xs ys : List ℕ) {n : ℕ} → length xs ≡ n → n ≤ length (xs ++ ys)
@@ -113,9 +113,12 @@ module _ (level : ℕ) (seed m public private : List ℕ) (pair : FromKeyMaking 
   private-is : private ≡ privateOf (levelOf level) seed
   private-is = made-of level seed public private pair .privateIs
 
-  wrapped-is : wrapped (levelOf level) (bits 8 public) m ≡ sentTo (levelOf level) seed m
+  digest-is : keyDigest public ≡ digestOf (levelOf level) seed
+  digest-is = ap keyDigest (made-of level seed public private pair .publicIs)
+
+  wrapped-is : wrapped (levelOf level) (keyDigest public) (bits 8 public) m ≡ sentTo (levelOf level) seed m
   unfolding sentTo
-  wrapped-is = ap (λ (h : Poly). wrapped (levelOf level) h m) public-is
+  wrapped-is = ap₂ (λ (digest : List ℕ) (h : Poly). wrapped (levelOf level) digest h m) digest-is public-is
 
   pub app : let c = sentTo (levelOf level) seed m in wrap-says level public m (ciphertextBytes (levelOf level)) messageBytes ≡ gives 0 (c ∷ hashK m c ∷ [])
   app =
@@ -123,7 +126,7 @@ module _ (level : ℕ) (seed m public private : List ℕ) (pair : FromKeyMaking 
 
   well-formed : WellFormed (levelOf level) (sentTo (levelOf level) seed m)
   unfolding sentTo
-  well-formed = wrapped-well-formed (levelOf level) (r-pos level) (publicOf (levelOf level) seed) m (message .small)
+  well-formed = wrapped-well-formed (levelOf level) (r-pos level) (digestOf (levelOf level) seed) (publicOf (levelOf level) seed) m (message .small)
 
   pub controller :
       let c = sentTo (levelOf level) seed m in
@@ -137,7 +140,7 @@ module _ (level : ℕ) (seed m public private : List ℕ) (pair : FromKeyMaking 
 
   fits : Finds bgf (levelOf level) seed m → Fits bgf (levelOf level) public private (sentTo (levelOf level) seed m) m
   fits found =
-      rw private-is (record { message = message; wraps = wrapped-is; decodes = found .decodes; finds = found .finds })
+      rw private-is (record { message = message; wraps = wrapped-is; decodes = found .decodes; finds = rw digest-is (found .finds) })
 
   pub ends-agree :
       let c = sentTo (levelOf level) seed m in

@@ -13,11 +13,15 @@ use Rattle.exchange.specs.decoder.Decoder.{Decoder, bgf, failed}
 use Rattle.exchange.specs.decoder.PrivateKey.{secret}
 use Rattle.exchange.specs.Fits.{Fits}
 use Rattle.exchange.specs.Opening.{syndromeOf, opened}
-use Rattle.exchange.specs.Scheme.{hashH, hashK, h0Of, sigmaOf, publicOf, privateOf, wrapped}
+use Rattle.exchange.specs.Scheme.{keyDigest, boundH, hashK, h0Of, sigmaOf, publicOf, privateOf, wrapped}
+
+-- D of the public key
+abbrev pub digestOf : Level → List ℕ → List ℕ
+digestOf l seed = keyDigest (bytesOf (l .r) (publicOf l seed))
 
 -- what the app sends
 unfoldable pub sentTo : Level → List ℕ → List ℕ → List ℕ
-sentTo l seed m = wrapped l (publicOf l seed) m
+sentTo l seed m = wrapped l (digestOf l seed) (publicOf l seed) m
 
 -- 1, 2, and 5 as in key making; else the key of each end
 unfoldable pub both-ends-reasons : ℕ → List ℕ → List ℕ → ℕ → ℕ → List Reason
@@ -44,7 +48,7 @@ BothEndsPromise level seed m roomSent roomOpened r sent opened =
 -- the decoder finds the message's error in what is sent
 pub record Finds (decoder : Decoder) (l : Level) (seed m : List ℕ) : Type 0 where
   pub decodes : failed decoder l (secret l (privateOf l seed)) (syndromeOf l (privateOf l seed) (sentTo l seed m)) ≡ false
-  pub finds : decoder l (secret l (privateOf l seed)) (syndromeOf l (privateOf l seed) (sentTo l seed m)) ≡ hashH l m
+  pub finds : decoder l (secret l (privateOf l seed)) (syndromeOf l (privateOf l seed) (sentTo l seed m)) ≡ boundH l (digestOf l seed) m
 
 -- n fits what is sent
 abbrev pub FitsSent : Decoder → Level → List ℕ → List ℕ → List ℕ → Type 0

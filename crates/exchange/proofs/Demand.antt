@@ -30,9 +30,9 @@ use Rattle.exchange.proofs.Streams.{below-append, below-take, below-dro
 use Rattle.exchange.proofs.decoder.Laws.{InPair, Stays, pair-path, add-none, residual-in, found-of, found-none}
 use Rattle.exchange.specs.decoder.Decoder.{Decoder, Pair, nothing, residual, failed, found}
 use Rattle.exchange.specs.Fits.{Bytes, WellFormed, Fits}
-use Rattle.exchange.specs.decoder.PrivateKey.{secret, sigma}
+use Rattle.exchange.specs.decoder.PrivateKey.{secret, sigma, digestIn}
 use Rattle.exchange.specs.Opening.{syndromeOf, messageOf, sameError, keyFor, opened}
-use Rattle.exchange.specs.Scheme.{hashH, hashL, hashK, xorBytes, wrapped}
+use Rattle.exchange.specs.Scheme.{hashH, keyDigest, bound, boundH, hashL, hashK, xorBytes, wrapped}
 
 -- exclusive or with the same bytes twice
 pub xor-twice : (a b : List ℕ) → length a ≡ messageBytes → xorBytes (xorBytes a b) b ≡ a
@@ -54,27 +54,27 @@ same-refl (suc r) a = rw (same-refl r a, flip-self (a r))
 
 module _ (decoder : Decoder) (l : Level) {public private c m : List ℕ} where
   -- the message that opening works out of m's own error is m
-  fits-message : Fits decoder l public private c m → messageOf l (hashH l m) c ≡ m
+  fits-message : Fits decoder l public private c m → messageOf l (boundH l (keyDigest public) m) c ≡ m
   unfolding messageOf wrapped
   fits-message fits =
-      rw (← (fits .wraps), drop-at (bytesOf (l .r) (add (hashH l m .half0) (mul (l .r) (hashH l m .half1) (bits 8 public)))) (xorBytes m (hashL (l .r) (hashH l m))) (polyBytes l) (bytesOf-length (l .r) _))
-      (xor-twice m (hashL (l .r) (hashH l m)) (fits .message .size))
+      rw (← (fits .wraps), drop-at (bytesOf (l .r) (add (boundH l (keyDigest public) m .half0) (mul (l .r) (boundH l (keyDigest public) m .half1) (bits 8 public)))) (xorBytes m (hashL (l .r) (boundH l (keyDigest public) m))) (polyBytes l) (bytesOf-length (l .r) _))
+      (xor-twice m (hashL (l .r) (boundH l (keyDigest public) m)) (fits .message .size))
 
-  fits-found : Fits decoder l public private c m → found decoder l (secret l private) (syndromeOf l private c) ≡ hashH l m
+  fits-found : Fits decoder l public private c m → found decoder l (secret l private) (syndromeOf l private c) ≡ boundH l (keyDigest public) m
   fits-found fits = found-of decoder l _ _ (fits .decodes) ∙ fits .finds
 
   -- and opening's check passes
   fits-same : Fits decoder l public private c m →
       let e = found decoder l (secret l private) (syndromeOf l private c) in
-      sameError (l .r) e (hashH l (messageOf l e c)) ≡ true
+      sameError (l .r) e (boundH l (keyDigest public) (messageOf l e c)) ≡ true
   unfolding sameError
   fits-same fits =
-      rw (fits-found fits, fits-message fits, same-refl (l .r) (hashH l m .half0), same-refl (l .r) (hashH l m .half1))
+      rw (fits-found fits, fits-message fits, same-refl (l .r) (boundH l (keyDigest public) m .half0), same-refl (l .r) (boundH l (keyDigest public) m .half1))
 
   -- "If one fits, opening gives the session key that wrapping m gave"
-  pub fitting-opens : Fits decoder l public private c m → opened decoder l private c ≡ hashK m c
+  pub fitting-opens : digestIn l private ≡ keyDigest public → Fits decoder l public private c m → opened decoder l private c ≡ hashK m c
   unfolding opened keyFor
-  fitting-opens fits = rw (fits-same fits, fits-found fits, fits-message fits)
+  fitting-opens belongs fits = rw (belongs, fits-same fits, fits-found fits, fits-message fits)
 
 -- "At most one m fits a ciphertext"
 pub at-most-one : (decoder : Decoder) (l : Level) {public private c m n : List ℕ} → Fits decoder l public private c m → Fits decoder l public private c n → m ≡ n
@@ -150,26 +150,26 @@ unfolding messageOf
 messageOf-bytes l e c hc = xor-bytes _ _ (below-drop 8 (polyBytes l) c hc) (hashL-below (l .r) e)
 
 -- wrapping gives a well-formed ciphertext
-pub wrapped-well-formed : (l : Level) → 0 < l .r → (h : Poly) (m : List ℕ) → Below 8 m → WellFormed l (wrapped l h m)
+pub wrapped-well-formed : (l : Level) → 0 < l .r → (digest : List ℕ) (h : Poly) (m : List ℕ) → Below 8 m → WellFormed l (wrapped l digest h m)
 unfolding wrapped
-wrapped-well-formed l pos h m small =
+wrapped-well-formed l pos digest h m small =
     record {
       bytes =
           record {
             size = length-append c0 c1 ∙ ap₂ _+_ (bytesOf-length (l .r) _) (second .size);
             small = below-append 8 c0 c1 (bytesOf-below (l .r) _) (second .small);
           };
-      noPad = rw (take-at c0 c1 (polyBytes l) (bytesOf-length (l .r) _)) (bytesOf-pad (l .r) (Ring.add-in (l .r) (error-in0 l m) (Ring.mul-in (l .r) pos _ _)));
+      noPad = rw (take-at c0 c1 (polyBytes l) (bytesOf-length (l .r) _)) (bytesOf-pad (l .r) (Ring.add-in (l .r) (error-in0 l (bound digest m)) (Ring.mul-in (l .r) pos _ _)));
     }
   where
     c0 : List ℕ
-    c0 = bytesOf (l .r) (add (hashH l m .half0) (mul (l .r) (hashH l m .half1) h))
+    c0 = bytesOf (l .r) (add (boundH l digest m .half0) (mul (l .r) (boundH l digest m .half1) h))
 
     c1 : List ℕ
-    c1 = xorBytes m (hashL (l .r) (hashH l m))
+    c1 = xorBytes m (hashL (l .r) (boundH l digest m))
 
     second : Bytes messageBytes c1
-    second = xor-bytes m (hashL (l .r) (hashH l m)) small (hashL-below (l .r) (hashH l m))
+    second = xor-bytes m (hashL (l .r) (boundH l digest m)) small (hashL-below (l .r) (boundH l digest m))
 
 module _ (decoder : Decoder) (l : Level) (pos : 0 < l .r) (stays : Stays decoder l) (public private c : List ℕ) (wellFormed : WellFormed l c) (matched : Matched (l .r) (bits 8 public) (secret l private)) where
   head : List ℕ
@@ -185,7 +185,7 @@ module _ (decoder : Decoder) (l : Level) (pos : 0 < l .r) (stays : Stays decoder
 
   -- where opening's check passes and decoding did not fail, the message that it worked out fits
   passes-fits : (e : Pair) → e ≡ decoder l (secret l private) (syndromeOf l private c) → failed decoder l (secret l private) (syndromeOf l private c) ≡ false
-      → e ≡ hashH l (messageOf l e c) → Fits decoder l public private c (messageOf l e c)
+      → e ≡ boundH l (keyDigest public) (messageOf l e c) → Fits decoder l public private c (messageOf l e c)
   unfolding head syndromeOf wrapped messageOf
   passes-fits e is ok passes =
       record { message = messageOf-bytes l e c (wellFormed .bytes .small); wraps = again; decodes = ok; finds = sym is ∙ passes }
@@ -209,11 +209,11 @@ module _ (decoder : Decoder) (l : Level) (pos : 0 < l .r) (stays : Stays decoder
       tail =
           xor-twice (drop (polyBytes l) c) (hashL (l .r) e) (length-drop (polyBytes l) c ∙ omega (arith, wellFormed .bytes .size))
 
-      again : wrapped l (bits 8 public) (messageOf l e c) ≡ c
+      again : wrapped l (keyDigest public) (bits 8 public) (messageOf l e c) ≡ c
       again = rw (← passes, c0, first, tail) (take-append-drop (polyBytes l) c)
 
   same-fits : failed decoder l (secret l private) (syndromeOf l private c) ≡ false
-      → sameError (l .r) (found decoder l (secret l private) (syndromeOf l private c)) (hashH l (messageOf l (found decoder l (secret l private) (syndromeOf l private c)) c)) ≡ true
+      → sameError (l .r) (found decoder l (secret l private) (syndromeOf l private c)) (boundH l (keyDigest public) (messageOf l (found decoder l (secret l private) (syndromeOf l private c)) c)) ≡ true
       → Fits decoder l public private c (messageOf l (found decoder l (secret l private) (syndromeOf l private c)) c)
   unfolding sameError
   same-fits ok same-error =
@@ -229,15 +229,15 @@ module _ (decoder : Decoder) (l : Level) (pos : 0 < l .r) (stays : Stays decoder
       inside : InPair (l .r) e
       inside = rw is (stays (secret l private) (syndromeOf l private c))
 
-      other : InPair (l .r) (hashH l (messageOf l e c))
-      other = (error-in0 l (messageOf l e c), error-in1 l (messageOf l e c))
+      other : InPair (l .r) (boundH l (keyDigest public) (messageOf l e c))
+      other = (error-in0 l _, error-in1 l _)
 
-      halves : (same (l .r) (e .half0) (hashH l (messageOf l e c) .half0) ≡ true) × (same (l .r) (e .half1) (hashH l (messageOf l e c) .half1) ≡ true)
+      halves : (same (l .r) (e .half0) (boundH l (keyDigest public) (messageOf l e c) .half0) ≡ true) × (same (l .r) (e .half1) (boundH l (keyDigest public) (messageOf l e c) .half1) ≡ true)
       halves = both-true _ _ same-error
 
   -- a message fits, or none does: opening's own check tells
   pub one-or-none : ((m : List ℕ) × Fits decoder l public private c m) ⊎ ((m : List ℕ) → Fits decoder l public private c m → ⊥)
-  one-or-none = go (sameError (l .r) e (hashH l (messageOf l e c))) (failed decoder l k s) refl refl
+  one-or-none = go (sameError (l .r) e (boundH l (keyDigest public) (messageOf l e c))) (failed decoder l k s) refl refl
     where
       k : Pair
       k = secret l private
@@ -248,17 +248,17 @@ module _ (decoder : Decoder) (l : Level) (pos : 0 < l .r) (stays : Stays decoder
       e : Pair
       e = found decoder l k s
 
-      go : (same-error failure : Bool) → sameError (l .r) e (hashH l (messageOf l e c)) ≡ same-error → failed decoder l k s ≡ failure
+      go : (same-error failure : Bool) → sameError (l .r) e (boundH l (keyDigest public) (messageOf l e c)) ≡ same-error → failed decoder l k s ≡ failure
           → ((m : List ℕ) × Fits decoder l public private c m) ⊎ ((m : List ℕ) → Fits decoder l public private c m → ⊥)
       go same-error true q p = inr (λ m fits. true≢false (sym p ∙ fits .decodes))
       go false false q p = inr (λ m fits. true≢false (sym (fits-same decoder l fits) ∙ q))
       go true false q p = inl (messageOf l e c, same-fits p q)
 
   -- "if none fits, the key worked out from the substitute sigma and this ciphertext"
-  pub none-opens : ((m : List ℕ) → sameError (l .r) nothing (hashH l m) ≡ false) → ((m : List ℕ) → Fits decoder l public private c m → ⊥)
+  pub none-opens : digestIn l private ≡ keyDigest public → ((m : List ℕ) → sameError (l .r) nothing (hashH l m) ≡ false) → ((m : List ℕ) → Fits decoder l public private c m → ⊥)
       → opened decoder l private c ≡ hashK (sigma l private) c
   unfolding opened keyFor
-  none-opens weighty none = go (sameError (l .r) e (hashH l (messageOf l e c))) (failed decoder l k s) refl refl
+  none-opens belongs weighty none = go (sameError (l .r) e (boundH l (keyDigest public) (messageOf l e c))) (failed decoder l k s) refl refl
     where
       k : Pair
       k = secret l private
@@ -269,10 +269,10 @@ module _ (decoder : Decoder) (l : Level) (pos : 0 < l .r) (stays : Stays decoder
       e : Pair
       e = found decoder l k s
 
-      go : (same-error failure : Bool) → sameError (l .r) e (hashH l (messageOf l e c)) ≡ same-error → failed decoder l k s ≡ failure
+      go : (same-error failure : Bool) → sameError (l .r) e (boundH l (keyDigest public) (messageOf l e c)) ≡ same-error → failed decoder l k s ≡ failure
           → opened decoder l private c ≡ hashK (sigma l private) c
-      go false failure q p = rw q
+      go false failure q p = rw (belongs, q)
       go true false q p = absurd (none (messageOf l e c) (same-fits p q))
       go true true q p =
-          let at : sameError (l .r) nothing (hashH l (messageOf l nothing c)) ≡ true = rw (found-none decoder l k s p) at q in
-          absurd (true≢false (sym at ∙ weighty (messageOf l nothing c)))
+          let at : sameError (l .r) nothing (boundH l (keyDigest public) (messageOf l nothing c)) ≡ true = rw (found-none decoder l k s p) at q in
+          absurd (true≢false (sym at ∙ weighty (bound (keyDigest public) (messageOf l nothing c))))

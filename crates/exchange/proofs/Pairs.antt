@@ -1,13 +1,13 @@
 -- Demand 3 for a key pair from our own key making and any well-formed ciphertext, in the words of the entries' promises. Assumes nothing.
 use mathlib.Core.Path.{_≡_, refl, sym, ap, _∙_}
 use mathlib.Core.Bool.{Bool, true, false}
-use mathlib.Core.List.{List, [], _∷_}
+use mathlib.Core.List.{List, [], _∷_, _++_}
 use Prim.Native.Nat.{ℕ, _+_}
 use native.Mathlib.Omega.{arith}
 use borrow.Author.Tests.{not-false}
 use lib.Dec.{lit<}
-use lib.ListN.{length, drop, length-drop}
-use lib.Seq.{take-all}
+use lib.ListN.{length, length-drop}
+use lib.Seq.{take-at, drop-at}
 use Rattle.hashing.specs.Answers.Outcome.{gives}
 use Rattle.hashing.specs.Lists.{bits}
 use Rattle.hashing.proofs.Answers.{done, settled-two, clear, all-clear}
@@ -21,11 +21,11 @@ use Rattle.ring.proofs.Levels.{r-pos, sizes}
 use Rattle.ring.proofs.Ring.{mul-in}
 use Rattle.ring.proofs.Weights.{weight-ext, weight-none}
 use Rattle.exchange.specs.decoder.Decoder.{Pair, nothing, bgf}
-use Rattle.exchange.specs.decoder.PrivateKey.{secret, goodKey, sigma}
+use Rattle.exchange.specs.decoder.PrivateKey.{secret, goodKey, tail, sigma, digestIn}
 use Rattle.exchange.specs.Fits.{FromKeyMaking, WellFormed, Fitting, Demand3}
 use Rattle.exchange.specs.Opening.{sameError, opened}
 use Rattle.exchange.specs.Promises.{making-reasons, make-key-says, wrap-says, open-says}
-use Rattle.exchange.specs.Scheme.{hashH, hashK, h0Of, h1Of, sigmaOf, publicOf, privateOf, wrapped}
+use Rattle.exchange.specs.Scheme.{hashH, hashK, h0Of, h1Of, sigmaOf, publicOf, keyDigest, privateOf, wrapped}
 use Rattle.exchange.proofs.Demand.{Matched, at-most-one, no-two, one-or-none, fitting-opens, none-opens}
 use Rattle.exchange.proofs.Errors.{error-weight}
 use Rattle.exchange.proofs.Judged.{MakingClear, making-clear, making-numbered, wrapping-none, opening-none}
@@ -57,9 +57,22 @@ module _ (level : ℕ) (seed public private : List ℕ) (made : Made level seed 
   l : Level
   l = levelOf level
 
+  -- sigma, and D of this public key
+  last : List ℕ
+  last = sigmaOf seed ++ keyDigest (bytesOf (levelOf level .r) (publicOf (levelOf level) seed))
+
+  sigma-long : length (sigmaOf seed) ≡ messageBytes
+  unfolding sigmaOf
+  sigma-long = length-drop messageBytes seed ∙ omega (arith, made .judged .seedSize)
+
+  tail-is : tail (levelOf level) private ≡ last
+  unfolding last
+  tail-is =
+      rw (made .privateIs) (tail-back (levelOf level) (h0Of (levelOf level) seed) (h1Of (levelOf level) seed) last (h0-half level seed .weighs) (h1-half level seed .weighs))
+
   halves : secret l private ≡ record { half0 = h0Of l seed; half1 = h1Of l seed }
-  unfolding l
-  halves = rw (made .privateIs) (secret-back l (h0Of l seed) (h1Of l seed) (sigmaOf seed) (h0-half level seed .weighs) (h1-half level seed .weighs) (h0-half level seed .inside) (h1-half level seed .inside))
+  unfolding l last
+  halves = rw (made .privateIs) (secret-back l (h0Of l seed) (h1Of l seed) last (h0-half level seed .weighs) (h1-half level seed .weighs) (h0-half level seed .inside) (h1-half level seed .inside))
 
   pub matched : Matched (levelOf level .r) (bits 8 public) (secret (levelOf level) private)
   unfolding l publicOf
@@ -72,17 +85,20 @@ module _ (level : ℕ) (seed public private : List ℕ) (made : Made level seed 
       })
 
   pub good : goodKey (levelOf level) private ≡ true
-  unfolding l goodKey
+  unfolding l last goodKey
   good =
-      let back0 = positions0-back l (h0Of l seed) (h1Of l seed) (sigmaOf seed) (h0-half level seed .weighs) (h1-half level seed .weighs) in
-      let back1 = positions1-back l (h0Of l seed) (h1Of l seed) (sigmaOf seed) (h0-half level seed .weighs) (h1-half level seed .weighs) in
+      let back0 = positions0-back l (h0Of l seed) (h1Of l seed) last (h0-half level seed .weighs) (h1-half level seed .weighs) in
+      let back1 = positions1-back l (h0Of l seed) (h1Of l seed) last (h0-half level seed .weighs) (h1-half level seed .weighs) in
       rw (made .privateIs, back0, back1, rising-good (l .r) (h0Of l seed), rising-good (l .r) (h1Of l seed))
 
   pub sigma-is : sigma (levelOf level) private ≡ sigmaOf seed
-  unfolding sigma sigmaOf
-  sigma-is =
-      rw (made .privateIs, tail-back (levelOf level) (h0Of (levelOf level) seed) (h1Of (levelOf level) seed) (sigmaOf seed) (h0-half level seed .weighs) (h1-half level seed .weighs))
-      (take-all messageBytes (drop messageBytes seed) (omega (arith, made .judged .seedSize, length-drop messageBytes seed)))
+  unfolding sigma last
+  sigma-is = rw tail-is (take-at (sigmaOf seed) _ messageBytes sigma-long)
+
+  -- the private key's D is that of the public key
+  pub digest-is : digestIn (levelOf level) private ≡ keyDigest public
+  unfolding digestIn last
+  digest-is = rw (tail-is, made .publicIs) (drop-at (sigmaOf seed) _ messageBytes sigma-long)
 
 -- an error of weight t is not 0
 weighs-nothing : (r : ℕ) (e : Pair) → sameError r nothing e ≡ true → weight r (e .half0) + weight r (e .half1) ≡ 0
@@ -110,7 +126,7 @@ module _ (level : ℕ) (seed public private : List ℕ) (pair : FromKeyMaking le
 
   -- to this public key every message wraps
   pub wraps : (m : List ℕ) → length m ≡ messageBytes →
-      let c = wrapped (levelOf level) (bits 8 public) m in
+      let c = wrapped (levelOf level) (keyDigest public) (bits 8 public) m in
       wrap-says level public m (ciphertextBytes (levelOf level)) messageBytes ≡ gives 0 (c ∷ hashK m c ∷ [])
   unfolding wrap-says
   wraps m size =
@@ -146,6 +162,7 @@ module _ (level : ℕ) (seed public private : List ℕ) (pair : FromKeyMaking le
     fitting : Fitting level seed public private c
     fitting =
         let pair = matched level seed public private made in
+        let belongs = digest-is level seed public private made in
         record {
           at-most-one = λ m n. at-most-one bgf (levelOf level);
           never-two = λ m d. no-two bgf (levelOf level);
@@ -153,11 +170,11 @@ module _ (level : ℕ) (seed public private : List ℕ) (pair : FromKeyMaking le
           if-one-fits = λ m fits. (
             ap (λ (n : ℕ). wrap-says level public m n messageBytes) (wellFormed .bytes .size) ∙ wraps m (fits .message .size)
                 ∙ ap (λ (d : List ℕ). gives 0 (d ∷ hashK m d ∷ [])) (fits .wraps),
-            opens-with (fitting-opens bgf (levelOf level) fits),
+            opens-with (fitting-opens bgf (levelOf level) belongs fits),
           );
           if-none-fits = λ none.
               opens-with
-              (none-opens bgf (levelOf level) (r-pos level) (bgf-in (levelOf level)) public private c wellFormed pair (never-nothing level) none
+              (none-opens bgf (levelOf level) (r-pos level) (bgf-in (levelOf level)) public private c wellFormed pair belongs (never-nothing level) none
               ∙ ap (λ (last : List ℕ). hashK last c) (sigma-is level seed public private made));
         }
 

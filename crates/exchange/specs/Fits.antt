@@ -13,7 +13,7 @@ use Rattle.exchange.specs.decoder.Decoder.{Decoder, bgf, failed}
 use Rattle.exchange.specs.decoder.PrivateKey.{secret}
 use Rattle.exchange.specs.Opening.{syndromeOf}
 use Rattle.exchange.specs.Promises.{make-key-says, wrap-says, open-says}
-use Rattle.exchange.specs.Scheme.{hashH, hashK, sigmaOf, wrapped}
+use Rattle.exchange.specs.Scheme.{keyDigest, boundH, hashK, sigmaOf, wrapped}
 
 -- "Take a key pair from our own key making": key making answers 0 with these two keys
 abbrev pub FromKeyMaking : ℕ → List ℕ → List ℕ → List ℕ → Type 0
@@ -34,9 +34,9 @@ pub record WellFormed (l : Level) (c : List ℕ) : Type 0 where
 -- determines"
 pub record Fits (decoder : Decoder) (l : Level) (public private c m : List ℕ) : Type 0 where
   pub message : Bytes messageBytes m
-  pub wraps : wrapped l (bits 8 public) m ≡ c
+  pub wraps : wrapped l (keyDigest public) (bits 8 public) m ≡ c
   pub decodes : failed decoder l (secret l private) (syndromeOf l private c) ≡ false
-  pub finds : decoder l (secret l private) (syndromeOf l private c) ≡ hashH l m
+  pub finds : decoder l (secret l private) (syndromeOf l private c) ≡ boundH l (keyDigest public) m
 
 -- what is claimed of such a pair and such a ciphertext; `one-or-none` says that one of the last two always applies
 pub record Fitting (level : ℕ) (seed public private c : List ℕ) : Type 0 where

@@ -15,7 +15,7 @@ use Rattle.ring.specs.Polynomials.{hasInverse}
 use Rattle.exchange.specs.decoder.Decoder.{bgf, failed}
 use Rattle.exchange.specs.decoder.PrivateKey.{secret, goodKey}
 use Rattle.exchange.specs.Opening.{opened}
-use Rattle.exchange.specs.Scheme.{hashH, hashK, h0Of, publicOf, privateOf, h0Replaced, h1Replaced, errorReplaced, wrapped}
+use Rattle.exchange.specs.Scheme.{hashH, hashK, h0Of, publicOf, privateOf, h0Replaced, h1Replaced, errorReplaced, keyDigest, wrapped}
 
 -- H: a message, e0 and e1
 unfoldable pub error-reasons : ℕ → List ℕ → ℕ → ℕ → List Reason
@@ -80,7 +80,7 @@ wrapping-reasons level h m roomCiphertext roomKey =
 
 unfoldable pub wrap-says : ℕ → List ℕ → List ℕ → ℕ → ℕ → Outcome
 wrap-says level h m roomCiphertext roomKey =
-    let c = wrapped (levelOf level) (bits 8 h) m in
+    let c = wrapped (levelOf level) (keyDigest h) (bits 8 h) m in
     settle (wrapping-reasons level h m roomCiphertext roomKey)
     (record { room = roomCiphertext; value = c } ∷ record { room = roomKey; value = hashK m c } ∷ [])
 

@@ -47,9 +47,14 @@ twoBytes (p ∷ rest) = p % 256 ∷ p / 256 ∷ twoBytes rest
 unfoldable pub privateKey : ℕ → Poly → Poly → List ℕ → List ℕ
 privateKey r h0 h1 tail = twoBytes (rising r h0) ++ (twoBytes (rising r h1) ++ tail)
 
--- the private key of a seed
+-- CR 4: "D is the first 32 bytes of SHA3-384 over the public key's bytes"
+unfoldable pub keyDigest : List ℕ → List ℕ
+keyDigest public = take messageBytes (sha3-384 public)
+
+-- the private key of a seed: "The private key gets D after sigma"
 abbrev pub privateOf : Level → List ℕ → List ℕ
-privateOf l seed = privateKey (l .r) (h0Of l seed) (h1Of l seed) (sigmaOf seed)
+privateOf l seed =
+    privateKey (l .r) (h0Of l seed) (h1Of l seed) (sigmaOf seed ++ keyDigest (bytesOf (l .r) (publicOf l seed)))
 
 -- "H(m): SHAKE256 of m, 4t bytes, len 2r, weight t; position p below r is bit p of e0, else bit p − r of e1"
 unfoldable pub errorPositions : Level → List ℕ → List ℕ
@@ -66,6 +71,14 @@ split r positions =
 unfoldable pub hashH : Level → List ℕ → Pair
 hashH l m = split (l .r) (errorPositions l m)
 
+-- CR 4: "f(m, h) = first 32 bytes of SHA3-384 over m and D"
+unfoldable pub bound : List ℕ → List ℕ → List ℕ
+bound digest m = take messageBytes (sha3-384 (m ++ digest))
+
+-- "Wrapping and opening use H(f(m, h)) where they used H(m)"
+abbrev pub boundH : Level → List ℕ → List ℕ → Pair
+boundH l digest m = hashH l (bound digest m)
+
 -- "L(e0, e1): first 32 bytes of SHA3-384 over both polynomials' bytes, pads included"
 unfoldable pub hashL : ℕ → Pair → List ℕ
 hashL r e = take messageBytes (sha3-384 (bytesOf r (e .half0) ++ bytesOf r (e .half1)))
@@ -77,7 +90,7 @@ hashK m c = take messageBytes (sha3-384 (m ++ c))
 unfoldable pub xorBytes : List ℕ → List ℕ → List ℕ
 xorBytes a b = tab messageBytes (λ i. bitXor (getD a i 0) (getD b i 0))
 
--- "Wrapping. (e0, e1) = H(m); c0 = e0 + e1·h; c1 = m xor L(e0, e1); key K(m, c)"
-unfoldable pub wrapped : Level → Poly → List ℕ → List ℕ
-wrapped l h m =
-    let e = hashH l m in bytesOf (l .r) (add (e .half0) (mul (l .r) (e .half1) h)) ++ xorBytes m (hashL (l .r) e)
+-- "Wrapping. (e0, e1) = H(m)", by CR 4 H(f(m, h)); "c0 = e0 + e1·h; c1 = m xor L(e0, e1); key K(m, c)"
+unfoldable pub wrapped : Level → List ℕ → Poly → List ℕ → List ℕ
+wrapped l digest h m =
+    let e = boundH l digest m in bytesOf (l .r) (add (e .half0) (mul (l .r) (e .half1) h)) ++ xorBytes m (hashL (l .r) e)

@@ -1,5 +1,6 @@
 // Key making: two sparse polynomials from a seed, the quotient that is public, and the positions that are kept.
 use crate::bytes;
+use crate::digest::key_digest;
 use crate::error;
 use crate::sampler;
 use hashing::sponge;
@@ -10,6 +11,7 @@ use ring::multiply;
 use ring::positions;
 use ring::size;
 use ring::size::MOST_D;
+use ring::size::TAIL;
 use ring::words;
 ghost use mathlib.Core.Path.{_≡_};
 ghost use mathlib.Core.Bool.{true};
@@ -19,13 +21,13 @@ ghost use lib.ListN.{length, take};
 ghost use Rattle.hashing.specs.Answers.{firstOf};
 ghost use Rattle.hashing.specs.Lists.{bits};
 ghost use Rattle.ring.specs.inner.Sizes.{keyStreamBytes, mostD};
-ghost use Rattle.ring.specs.Levels.{levelOf};
+ghost use Rattle.ring.specs.Levels.{levelOf, messageBytes, tailBytes};
 ghost use Rattle.ring.specs.Polynomials;
 ghost use Rattle.ring.specs.Polynomials.{InRing, weight, hasInverse, support};
 ghost use Rattle.exchange.specs.Promises.{making-reasons};
 ghost use Rattle.ring.specs.Bytes.{bytesOf, numbers};
 ghost use Rattle.exchange.specs.Sampler.{sampleKey, replaced};
-ghost use Rattle.exchange.specs.Scheme.{keyStream, h0Of, h1Of, publicOf, privateOf, h0Replaced, h1Replaced, twoBytes, privateKey};
+ghost use Rattle.exchange.specs.Scheme.{keyStream, h0Of, h1Of, publicOf, privateOf, h0Replaced, h1Replaced, keyDigest, twoBytes, privateKey};
 
 const STREAM: usize = 8 * MOST_D;
 
@@ -184,6 +186,25 @@ pub fn write_private(level: u32, h: KeyWords, tail: &[u8], out: &mut [u8])
     write_rest(level, h1, tail, &mut out[n..]);
 }
 
+fn no_tail() -> [u8; TAIL]
+    ensures { λ r. ⌜ tailBytes ≡ length r ⌝ }
+{
+    [0; TAIL]
+}
+
+// What follows the positions: sigma, and the digest of the public key.
+fn tail_of(sigma: &[u8], public_key: &[u8]) -> [u8; TAIL]
+    requires { ⌜ length (now sigma) ≡ messageBytes ⌝ }
+    ensures { λ r. ⌜ r ≡ now (sigma .entry) ++ keyDigest (now («public_key» .entry)) ⌝ }
+{
+    let n = sigma.len();
+    let digest = key_digest(public_key);
+    let mut tail = no_tail();
+    bytes::copy(sigma, &mut tail[..n]);
+    bytes::copy(&digest, &mut tail[n..]);
+    tail
+}
+
 // Whether a key was made, and how many positions of h0 and of h1 were replaced.
 pub struct Made {
     pub exists: bool,
@@ -216,7 +237,8 @@ pub fn write(level: u32, seed: &[u8], public_key: &mut [u8], private_key: &mut [
     }
     let value = inverse.value;
     words::store(multiply::multiply(r, h1, value), public_key);
-    write_private(level, KeyWords { h0, h1 }, &seed[32..], private_key);
+    let tail = tail_of(&seed[32..], public_key);
+    write_private(level, KeyWords { h0, h1 }, &tail, private_key);
     Made {
         exists: true,
         replaced0,

@@ -3,6 +3,7 @@ use crate::bytes;
 use crate::decoder::Key;
 use crate::decoder::find;
 use crate::decoder::read_key;
+use crate::digest::bound;
 use crate::digest::digest32;
 use crate::digest::no_digest;
 use crate::error;
@@ -69,21 +70,23 @@ fn chosen(differences: usize, m: [u8; 32], sigma: &[u8]) -> [u8; 32]
     out
 }
 
-// The session key that goes with an error: of m' where the error is that of m', else of sigma. The answer is the same.
+// The session key that goes with an error: of m' where the error is that of m' tied to the digest, else of sigma. The answer is the same.
 fn write_session_key(
     level: u32,
     e0: [u64; WORDS],
     e1: [u64; WORDS],
     sigma: &[u8],
+    digest: &[u8],
     ciphertext: &[u8],
     out: &mut [u8],
 ) -> u32
     requires { ⌜ (length (now sigma) ≡ messageBytes) × (length (now ciphertext) ≡ ciphertextBytes (levelOf level)) × (length (now out) ≡ messageBytes) ⌝
         ∗ ⌜ InRing (levelOf level .r) (bits 64 e0) ⌝ ∗ ⌜ InRing (levelOf level .r) (bits 64 e1) ⌝ }
-    ensures { λ r. ⌜ (r ≡ 0) × (now (out .exit) ≡ keyFor (levelOf level) (now (sigma .entry)) (now (ciphertext .entry)) (record { half0 = bits 64 e0; half1 = bits 64 e1 })) ⌝ }
+    ensures { λ r. ⌜ (r ≡ 0) × (now (out .exit) ≡ keyFor (levelOf level) (now (digest .entry)) (now (sigma .entry)) (now (ciphertext .entry)) (record { half0 = bits 64 e0; half1 = bits 64 e1 })) ⌝ }
 {
     let m = message_of(level, error::stored(level, e0, e1), ciphertext);
-    let again = error::words_of(level, &m).words;
+    let tied = bound(digest, &m);
+    let again = error::words_of(level, &tied).words;
     let differing = differences(level, e0, e1, again);
     let secret = chosen(differing, m, sigma);
     wrapping::write_key(&secret, ciphertext, out);
@@ -117,6 +120,7 @@ pub fn write(level: u32, private_key: &[u8], ciphertext: &[u8], session_key: &mu
         e0,
         e1,
         &private_key[at..end],
+        &private_key[end..],
         ciphertext,
         session_key,
     )

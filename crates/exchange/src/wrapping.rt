@@ -1,6 +1,8 @@
 // Wrapping: the ciphertext of a message under a public key, and the session key.
 use crate::bytes;
+use crate::digest::bound;
 use crate::digest::digest32;
+use crate::digest::key_digest;
 use crate::error;
 use ring::WORDS;
 use ring::size;
@@ -16,7 +18,7 @@ ghost use Rattle.ring.specs.Bytes.{bytesOf};
 ghost use Rattle.ring.specs.Levels.{levelOf, messageBytes, polyBytes, ciphertextBytes};
 ghost use Rattle.ring.specs.Polynomials.{InRing, add, mul};
 ghost use Rattle.exchange.specs.Promises.{wrapping-reasons};
-ghost use Rattle.exchange.specs.Scheme.{hashH, hashK, xorBytes, wrapped};
+ghost use Rattle.exchange.specs.Scheme.{keyDigest, hashH, boundH, hashK, xorBytes, wrapped};
 
 pub struct Addends {
     pub e0: [u64; WORDS],
@@ -42,6 +44,17 @@ fn addends_of(level: u32, h: [u64; WORDS], message: &[u8]) -> Addends
     Addends { e0, e1, product }
 }
 
+// The same of a message, tied to the public key.
+fn bound_addends(level: u32, h: &[u8], message: &[u8]) -> Addends
+    requires { ⌜ length (now h) ≡ polyBytes (levelOf level) ⌝ ∗ ⌜ InRing (levelOf level .r) (bits 8 (now h)) ⌝ }
+    ensures { λ a. ⌜ (bits 64 (a .e0) ≡ boundH (levelOf level) (keyDigest (now (h .entry))) (now (message .entry)) .half0)
+        × (bits 64 (a .e1) ≡ boundH (levelOf level) (keyDigest (now (h .entry))) (now (message .entry)) .half1)
+        × (bits 64 (a .product) ≡ mul (levelOf level .r) (boundH (levelOf level) (keyDigest (now (h .entry))) (now (message .entry)) .half1) (bits 8 (now (h .entry)))) ⌝ }
+{
+    let tied = bound(&key_digest(h), message);
+    addends_of(level, words::load(h), &tied)
+}
+
 // c0 = e0 + e1·h
 fn write_c0(level: u32, e0: [u64; WORDS], product: [u64; WORDS], out: &mut [u8])
     requires { ⌜ length (now out) ≡ polyBytes (levelOf level) ⌝ ∗ ⌜ InRing (levelOf level .r) (bits 64 e0) ⌝ ∗ ⌜ InRing (levelOf level .r) (bits 64 product) ⌝ }
@@ -64,10 +77,10 @@ fn write_c1(message: &[u8], e0: &[u8], e1: &[u8], out: &mut [u8])
 fn write_ciphertext(level: u32, h: &[u8], message: &[u8], out: &mut [u8])
     requires { ⌜ (length (now h) ≡ polyBytes (levelOf level)) × (length (now message) ≡ messageBytes)
         × (length (now out) ≡ ciphertextBytes (levelOf level)) ⌝ ∗ ⌜ InRing (levelOf level .r) (bits 8 (now h)) ⌝ }
-    ensures { λ _. ⌜ now (out .exit) ≡ wrapped (levelOf level) (bits 8 (now (h .entry))) (now (message .entry)) ⌝ }
+    ensures { λ _. ⌜ now (out .exit) ≡ wrapped (levelOf level) (keyDigest (now (h .entry))) (bits 8 (now (h .entry))) (now (message .entry)) ⌝ }
 {
     let n = size::polynomial(level);
-    let a = addends_of(level, words::load(h), message);
+    let a = bound_addends(level, h, message);
     let e0 = a.e0;
     let e1 = a.e1;
     let product = a.product;
@@ -95,8 +108,8 @@ pub fn write(
     session_key: &mut [u8],
 )
     requires { ⌜ firstOf (wrapping-reasons level (now «public_key») (now message) (length (now ciphertext)) (length (now «session_key»))) ≡ 0 ⌝ }
-    ensures { λ _. ⌜ (now (ciphertext .exit) ≡ wrapped (levelOf level) (bits 8 (now («public_key» .entry))) (now (message .entry)))
-        × (now («session_key» .exit) ≡ hashK (now (message .entry)) (wrapped (levelOf level) (bits 8 (now («public_key» .entry))) (now (message .entry)))) ⌝ }
+    ensures { λ _. ⌜ (now (ciphertext .exit) ≡ wrapped (levelOf level) (keyDigest (now («public_key» .entry))) (bits 8 (now («public_key» .entry))) (now (message .entry)))
+        × (now («session_key» .exit) ≡ hashK (now (message .entry)) (wrapped (levelOf level) (keyDigest (now («public_key» .entry))) (bits 8 (now («public_key» .entry))) (now (message .entry)))) ⌝ }
 {
     write_ciphertext(level, public_key, message, ciphertext);
     write_key(message, ciphertext, session_key);

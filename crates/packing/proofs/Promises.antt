@@ -90,14 +90,14 @@ pub unpack-just-one : (level : ℕ) (bytes : List ℕ) (room : ℕ) {r r′ : �
     → UnpackPromise level bytes room r out → UnpackPromise level bytes room r′ out′ → (r ≡ r′) × (out ≡ out′)
 unpack-just-one level bytes room = one-output
 
--- "14 bits per position at Level 1 and 15 at Level 3. .. That is 281 and 419 bytes, with 4 and 6 pad bits."
+-- "14 bits per position at Level 1 and 15 at Level 3. .. That is 281 and 419 bytes, with 4 and 6 pad bits.", and with D "313 and 451 packed"
 pub computed : Level → List ℕ
 computed l = positionBits (l .r) ∷ packedBytes l ∷ (8 * byteLength (packedBits l) - packedBits l) ∷ []
 
-pub computed1 : computed level1 ≡ 14 ∷ 281 ∷ 4 ∷ []
+pub computed1 : computed level1 ≡ 14 ∷ 313 ∷ 4 ∷ []
 unfolding computed level1 top halvings
 computed1 = refl
 
-pub computed3 : computed level3 ≡ 15 ∷ 419 ∷ 6 ∷ []
+pub computed3 : computed level3 ≡ 15 ∷ 451 ∷ 6 ∷ []
 unfolding computed level3 top halvings
 computed3 = refl

@@ -149,10 +149,10 @@ bounds level s few =
 pub computed : Level → List ℕ
 computed l = polyBytes l ∷ polyWords l ∷ padBits l ∷ ciphertextBytes l ∷ privateBytes l ∷ masked l ∷ top (l .r - 2) ∷ []
 
-pub computed1 : computed level1 ≡ 1541 ∷ 193 ∷ 5 ∷ 1573 ∷ 316 ∷ 37 ∷ 13 ∷ []
+pub computed1 : computed level1 ≡ 1541 ∷ 193 ∷ 5 ∷ 1573 ∷ 348 ∷ 37 ∷ 13 ∷ []
 unfolding computed level1 top halvings
 computed1 = refl
 
-pub computed3 : computed level3 ≡ 3083 ∷ 386 ∷ 5 ∷ 3115 ∷ 444 ∷ 53 ∷ 14 ∷ []
+pub computed3 : computed level3 ≡ 3083 ∷ 386 ∷ 5 ∷ 3115 ∷ 476 ∷ 53 ∷ 14 ∷ []
 unfolding computed level3 top halvings
 computed3 = refl

@@ -50,9 +50,9 @@ messageBytes = 32
 abbrev pub seedBytes : ℕ
 seedBytes = 64
 
--- what follows the positions of a private key: sigma
+-- CR 4: what follows the positions of a private key, sigma and then D
 abbrev pub tailBytes : ℕ
-tailBytes = 32
+tailBytes = messageBytes + 32
 
 -- lengths in bytes, and in words of 64 bits inside
 abbrev pub polyBytes : Level → ℕ
@@ -72,7 +72,7 @@ positionBits r = suc (top r)
 abbrev pub ciphertextBytes : Level → ℕ
 ciphertextBytes l = polyBytes l + messageBytes
 
--- "d positions of h0, d positions of h1, two bytes each", "then sigma"
+-- "d positions of h0, d positions of h1, two bytes each", "then sigma"; CR 4: "The private key gets D after sigma"
 abbrev pub privateBytes : Level → ℕ
 privateBytes l = 2 * (l .d + l .d) + tailBytes
 

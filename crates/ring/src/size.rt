@@ -15,8 +15,8 @@ pub const MESSAGE: usize = 32;
 
 pub const SEED: usize = 64;
 
-// What follows the positions of a private key: sigma.
-pub const TAIL: usize = 32;
+// What follows the positions of a private key: sigma, and the digest of the public key.
+pub const TAIL: usize = MESSAGE + 32;
 
 pub fn block(level: u32) -> usize
     ensures { λ n. ⌜ n ≡ levelOf level .r ⌝ }

@@ -6,17 +6,19 @@ use Prim.Native.Nat.{ℕ, suc, _+_, _*_, _/_, _%_, _≤_, _<_}
 use native.Mathlib.Nat.{zero-add}
 use native.Mathlib.Numerals.{add-one}
 use native.Mathlib.Omega.{arith}
-use lib.Dec.{ltb}
+use lib.Dec.{ltb, lit≤}
 use lib.ListN.{length, getD, set, drop, take, length-append}
 use lib.Seq.{length-take-le, take-suc, drop-cons, set-at}
 use borrow.Author.Tests.{le-ltb}
 use Rattle.hashing.specs.Lists.{bits}
+use Rattle.hashing.specs.Sponge.{sha3-384}
+use Rattle.hashing.proofs.sponge.Squeezing.{sha3-384-length}
 use Rattle.ring.specs.Bytes.{bytesOf, numbers}
 use Rattle.ring.specs.Levels.{levelOf, messageBytes}
 use Rattle.ring.specs.Polynomials.{Poly, InRing, weight, listed, support}
 use Rattle.ring.proofs.Layouts.{Below, bits-bytesOf}
 use Rattle.exchange.specs.Sampler.{sample, sampleKey}
-use Rattle.exchange.specs.Scheme.{keyStream, h0Of, h1Of, twoBytes}
+use Rattle.exchange.specs.Scheme.{keyStream, h0Of, h1Of, keyDigest, twoBytes}
 use Rattle.ring.proofs.Levels.{sizes}
 use Rattle.exchange.proofs.Making.{length-twoBytes, bounded}
 use Rattle.exchange.proofs.Streams.{below-drop, shake256-below, words-below}
@@ -62,6 +64,10 @@ module _ (level : ℕ) (seed : List ℕ) where
       let bounds = sizes level in
       sampled-half (levelOf level .r) (levelOf level .d) (drop (4 * levelOf level .d) (keyStream (levelOf level) seed)) (omega arith)
       (below-drop 8 (4 * levelOf level .d) (keyStream (levelOf level) seed) stream-below)
+
+pub keyDigest-length : (public : List ℕ) → length (keyDigest public) ≡ messageBytes
+unfolding keyDigest
+keyDigest-length public = length-take-le messageBytes (sha3-384 public) (rw (sha3-384-length public) (lit≤ tt))
 
 -- two bytes more: the loop that writes positions
 twoBytes-append : (xs ys : List ℕ) → twoBytes (xs ++ ys) ≡ twoBytes xs ++ twoBytes ys

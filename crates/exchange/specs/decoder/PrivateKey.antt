@@ -26,6 +26,10 @@ tail l key = drop (2 * (l .d + l .d)) key
 unfoldable pub sigma : Level → List ℕ → List ℕ
 sigma l key = take messageBytes (tail l key)
 
+-- CR 4: "The private key gets D after sigma", as it stands there
+unfoldable pub digestIn : Level → List ℕ → List ℕ
+digestIn l key = drop messageBytes (tail l key)
+
 -- "strictly rising inside each half, below r": none below `least`, and each above the one before it
 unfoldable pub risingFrom : ℕ → ℕ → List ℕ → Bool
 risingFrom r least [] = true

@@ -94,28 +94,34 @@ half1 : (c : tie.After-both-halves) →
 half1 c =
     let given = c .before .before .before .before .before .args in half-is (c .both-halves .ensures .1) (h1-half (given .level) (given .seed .now))
 
+-- sigma is the rest of the seed
+tail-of-requires : tie.Need-tail-of-requires
+tail-of-requires c κs =
+    let start = c .before .before .before .before .before .before .before .before .before .before .before .before .before .before .before .before .before .before in
+    let is = judged start in
+    omega (arith, ap length (rest-all 32 (start .args .seed .now)) ∙ length-drop 32 (start .args .seed .now))
+
 write-private-requires : tie.Need-write-private-requires
 write-private-requires c κs =
-    let halves = c .before .before .before .before .before .before .before .before .before .before .before .before .before in
+    let halves = c .before .before .before .before .before .before .before .before .before .before .before .before .before .before .before .before in
     let start = halves .before .before .before .before .before in
     let is = judged start in
-    let seed = start .args .seed .now in
     let zero = half0 halves in
     let one = half1 halves in
-    (omega (arith, ap length (rest-all 32 seed) ∙ length-drop 32 seed), ((zero .inside, one .inside), (zero .weighs, one .weighs)))
+    (omega arith, ((zero .inside, one .inside), (zero .weighs, one .weighs)))
 
 returns-2 : tie.Need-returns-2
 unfolding bytesOf publicOf sigmaOf
 returns-2 c =
     let wrote = c .before .before in
-    let stored = wrote .before .before .before .before .before in
+    let stored = wrote .before .before .before .before .before .before .before .before in
     let multiplied = stored .before .before in
     let else = multiplied .before .before in
     let halves = else .before .before .before .before .before in
     let start = halves .before .before .before .before .before in
     let product = rw (halves .before .block .ensures, halves .both-halves .ensures .1, value else) at (multiplied .multiply .ensures) in
     let public = rw (product, judged start .publicRoom) at (stored .store .ensures) in
-    let private = rw (halves .both-halves .ensures .0, halves .both-halves .ensures .1, rest-all 32 (start .args .seed .now)) at (wrote .write-private .ensures) in
+    let private = rw (halves .both-halves .ensures .0, halves .both-halves .ensures .1, wrote .before .before .before .tail-of .ensures, rest-all 32 (start .args .seed .now), public) at (wrote .write-private .ensures) in
     (sym (there else), λ made. (public, private), halves .both-halves .ensures .2, halves .both-halves .ensures .3)
 
 pub write-spec : {M : Type 1} → statement M
@@ -130,6 +136,8 @@ write-spec =
     store-requires
     (λ c. let is = judged (c .before .before .before .before .before .before .before .before .before .before .before .before .before .before .before .before) in omega arith)
     (λ c. let is = judged (c .before .before .before .before .before .before .before .before .before .before .before .before .before .before .before .before) in omega arith)
+    (λ c. search needs)
+    tail-of-requires
     (λ c. search needs)
     write-private-requires
     (λ c. search needs)

@@ -4,7 +4,7 @@ use mathlib.Core.List.{List}
 use Prim.Native.Nat.{ℕ, _+_, _*_, _-_, _≤_}
 use native.Mathlib.Omega.{arith}
 use lib.ListN.{length, take, drop, length-drop}
-use lib.Seq.{length-take-le}
+use lib.Seq.{length-take-le, drop-drop}
 use borrow.Author.Needs.{needs}
 use Rattle.hashing.specs.Lists.{bits}
 use Rattle.ring.specs.Levels.{levelOf, messageBytes, polyBytes}
@@ -13,10 +13,11 @@ use Rattle.ring.proofs.Layouts.{pad-rule}
 use Rattle.ring.proofs.Levels.{r-pos, sizes}
 use Rattle.ring.proofs.Ring.{mul-in}
 use Rattle.exchange.specs.decoder.Decoder.{Pair, bgf, found}
-use Rattle.exchange.specs.decoder.PrivateKey.{secret, tail, sigma}
+use Rattle.exchange.specs.decoder.PrivateKey.{secret, tail, sigma, digestIn}
 use Rattle.exchange.specs.inner.Working.{keyOf, Good}
 use Rattle.exchange.specs.Opening.{syndromeOf, keyFor, opened}
 use Rattle.exchange.proofs.Judged.{OpeningClear, opening-clear}
+use Rattle.exchange.proofs.Parts.{rest-all}
 use Rattle.exchange.proofs.Streams.{below-take}
 use Rattle.exchange.proofs.decoder.Laws.{pair-path, bgf-in, found-in, read-secret, good-read}
 use Rattle.exchange.proofs.opening.write.Statement.{statement}
@@ -69,9 +70,23 @@ sigma-is c =
     let size : 4 * c .key-weight .result + 32 - 4 * c .key-weight .result ≡ messageBytes = omega arith in
     ap₂ (λ (n k : ℕ). take n (drop k (given .private-key .now))) size at
 
+-- and the digest is what follows it
+digest-is : (c : tie.After-key-weight) →
+    let given = c .before .before .before .before .before .args in
+    let key = given .private-key .now in
+    let end = 4 * c .key-weight .result + 32 in
+    take (length key - end) (drop end key) ≡ digestIn (levelOf (given .level)) key
+unfolding digestIn tail
+digest-is c =
+    let given = c .before .before .before .before .before .args in
+    let key = given .private-key .now in
+    let d = levelOf (given .level) .d in
+    let end : 4 * c .key-weight .result + 32 ≡ 2 * (d + d) + messageBytes = omega (arith, c .key-weight .ensures) in
+    rest-all _ key ∙ ap (λ (n : ℕ). drop n key) end ∙ sym (drop-drop messageBytes (2 * (d + d)) key)
+
 write-session-key-requires : tie.Need-write-session-key-requires
 write-session-key-requires c κs =
-    let made = c .before .before .before .before in
+    let made = c .before .before .before .before .before in
     let weighed = made .before .before .before .before .before in
     let start = weighed .before .before .before .before .before in
     let l = levelOf (start .args .level) in
@@ -88,7 +103,7 @@ returns : tie.Need-returns
 unfolding opened syndromeOf
 returns c =
     let written = c .before .before in
-    let made = written .before .before .before .before .before in
+    let made = written .before .before .before .before .before .before in
     let loaded = made .before .before in
     let read = loaded .before .before in
     let given = read .before .before .before .before .before .before .args in
@@ -97,8 +112,8 @@ returns c =
     let key = read-secret _ (read .read-key .result) _ (read .read-key .ensures) in
     let s = made .before .syndrome .ensures ∙ ap₂ (λ (a : ℕ → _) (h : Pair). mul (l .r) a (h .half0)) (c0-is loaded) key in (
       written .write-session-key .ensures .0,
-      written .write-session-key .ensures .1
-          ∙ ap₂ (λ (last : List ℕ) (e : Pair). keyFor l last (given .ciphertext .now) e) (sigma-is (read .before))
+      (rw (digest-is (read .before), sigma-is (read .before)) at (written .write-session-key .ensures .1))
+          ∙ ap (keyFor l (digestIn l (given .private-key .now)) (sigma l (given .private-key .now)) (given .ciphertext .now))
           (pair-path (made .find .ensures .1) (made .find .ensures .2) ∙ ap₂ (found bgf l) key s),
     )
 
@@ -120,6 +135,9 @@ write-spec =
     (λ c. search needs)
     (λ c. search needs)
     (λ c. room (c .before .before .before .before .before .before .before))
+    (λ c. room (c .before .before .before .before .before .before .before .before))
+    (λ c. room (c .before .before .before .before .before .before .before .before))
+    (λ c. search needs)
     write-session-key-requires
     (λ c. search needs)
     returns)
