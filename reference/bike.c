@@ -45,8 +45,17 @@ static size_t bytes_of(const struct level *v, enum form form)
     }
 }
 
+/* A private key as it was before D; only a wrong reading takes it. */
+static bool old_key(const struct level *v, const struct lent *b)
+{
+    return wrong(W_OLD_LENGTHS) && b->form == PRIVATE_KEY && b->in != NULL
+           && b->n == private_key_bytes(v) - digest_bytes();
+}
+
 static bool length_wrong(const struct level *v, const struct lent *b)
 {
+    if (old_key(v, b))
+        return false;
     return wrong(W_AT_LEAST) ? b->n < bytes_of(v, b->form) : b->n != bytes_of(v, b->form);
 }
 
@@ -68,6 +77,14 @@ static bool pad_set(const struct level *v, const struct lent *b)
     return b->n > last && (b->in[last] & pad) != 0;
 }
 
+/* A lent private key, with zeros where it ends too early. */
+static struct key key_lent(const struct level *v, const struct lent *b)
+{
+    uint8_t bytes[PRIVATE_KEY_MAX] = {0};
+    memcpy(bytes, b->in, b->n < private_key_bytes(v) ? b->n : private_key_bytes(v));
+    return key_of_bytes(v, bytes);
+}
+
 static bool packed_key_bad(const struct level *v, const uint8_t *packed)
 {
     struct key key = key_of_packed(v, packed);
@@ -79,11 +96,13 @@ static bool packed_key_bad(const struct level *v, const uint8_t *packed)
 
 static bool key_bad(const struct level *v, const struct lent *b)
 {
-    if (b->in == NULL || (b->form != PRIVATE_KEY && b->form != PACKED_KEY) || b->n < bytes_of(v, b->form))
+    if (b->in == NULL || (b->form != PRIVATE_KEY && b->form != PACKED_KEY))
+        return false;
+    if (b->n < bytes_of(v, b->form) && !old_key(v, b))
         return false;
     if (b->form == PACKED_KEY)
         return packed_key_bad(v, b->in);
-    struct key key = key_of_bytes(v, b->in);
+    struct key key = key_lent(v, b);
     return !key_is_good(v, &key);
 }
 
@@ -206,6 +225,11 @@ uint32_t ref_error_of(uint32_t level, const uint8_t *m, size_t mn, uint8_t *e0, 
     const struct lent lent[] = {input(SHORT, m, mn), output(POLYNOMIAL, e0, e0n), output(POLYNOMIAL, e1, e1n)};
     uint32_t answer = refusal(v, lent, 3);
     struct poly e[2];
+    uint8_t digest[SHA3_384_BYTES];
+    if (wrong(W_H_BINDS) && mn == SHORT_BYTES) {
+        ref_sha3_384(m, mn, digest, sizeof digest);
+        m = digest;
+    }
     *replaced = v != NULL && mn == SHORT_BYTES ? hash_H(v, m, e) : 0;
     if (answer == 0)
         write_error(v, e, e0, e1);
@@ -221,25 +245,13 @@ uint32_t ref_decode(uint32_t level, const uint8_t *key, size_t keyn, const uint8
                                 output(POLYNOMIAL, e0, e0n), output(POLYNOMIAL, e1, e1n)};
     uint32_t answer = refusal(v, lent, 4);
     if (answer == 0) {
-        struct key k = key_of_bytes(v, key);
+        struct key k = key_lent(v, &lent[0]);
         struct poly e[2], syndrome = poly_of_bytes(s, polynomial_bytes(v));
         if (!bgf(v, &k, &syndrome, e))
             answer = 6;
         write_error(v, e, e0, e1);
     }
     return finish(answer, v, lent, 4);
-}
-
-/* h = h1 / h0; false exactly if h0 has no inverse. */
-static bool public_key(const struct level *v, const struct key *key, struct poly *h)
-{
-    struct poly over = key_half(v, key, wrong(W_H0_OVER_H1) ? 0 : 1);
-    struct poly under = key_half(v, key, wrong(W_H0_OVER_H1) ? 1 : 0);
-    struct poly inverse;
-    if (!poly_inverse(v->r, &under, &inverse))
-        return false;
-    *h = poly_product(v->r, &over, &inverse);
-    return true;
 }
 
 /* The numbers of the two halves, h0's first. */
@@ -258,10 +270,11 @@ static uint32_t make_key(const struct level *v, const struct lent lent[], size_t
     struct poly h;
     if (v != NULL && lent[0].n == SEED_BYTES)
         key = key_of_seed(v, lent[0].in, replaced);
-    if (answer == 0 && !public_key(v, &key, &h))
+    if (answer == 0 && !key_public(v, &key, &h))
         answer = 5;
     if (answer == 0) {
         poly_to_bytes(&h, lent[1].out, polynomial_bytes(v));
+        hash_D(v, lent[1].out, key.digest);
         key_to_bytes(v, &key, lent[2].out);
     }
     count_halves(replaced, numbers);
@@ -294,18 +307,21 @@ static void xor_short(uint8_t *out, const uint8_t *a, const uint8_t *b)
         out[i] = a[i] ^ b[i];
 }
 
-/* c0 = e0 + e1·h; c1 = m xor L(e0, e1) */
-static void wrap_message(const struct level *v, const struct poly *h, const uint8_t *m, uint8_t *c, uint8_t *k)
+/* (e0, e1) = H(f(m, h)); c0 = e0 + e1·h; c1 = m xor L(e0, e1) */
+static void wrap_message(const struct level *v, const uint8_t *pub, const struct poly *h, const uint8_t *m,
+                         uint8_t *c, uint8_t *k)
 {
     struct poly e[2];
-    uint8_t hidden[SHORT_BYTES];
-    hash_H(v, m, e);
+    uint8_t hidden[SHORT_BYTES], digest[DIGEST_MAX], f[SHORT_BYTES];
+    hash_D(v, pub, digest);
+    hash_f(m, digest, f);
+    hash_H(v, f, e);
     struct poly c0 = poly_product(v->r, &e[1], h);
     c0 = poly_sum(&e[0], &c0);
     poly_to_bytes(&c0, c, polynomial_bytes(v));
     hash_L(v, e, hidden);
-    xor_short(c + polynomial_bytes(v), m, hidden);
-    hash_K(v, m, c, k);
+    xor_short(c + polynomial_bytes(v), wrong(W_C1_HIDES_F) ? f : m, hidden);
+    hash_K(v, wrong(W_K_OVER_F) ? f : m, c, k);
 }
 
 uint32_t ref_wrap(uint32_t level, const uint8_t *h, size_t hn, const uint8_t *m, size_t mn,
@@ -319,7 +335,7 @@ uint32_t ref_wrap(uint32_t level, const uint8_t *h, size_t hn, const uint8_t *m,
         struct poly ph = poly_of_bytes(h, polynomial_bytes(v));
         if (wrong(W_ZERO_KEY_REFUSED) && poly_weight(&ph) == 0)
             return finish(5, v, lent, 4);
-        wrap_message(v, &ph, m, c, k);
+        wrap_message(v, h, &ph, m, c, k);
     }
     return finish(answer, v, lent, 4);
 }
@@ -335,20 +351,36 @@ static bool same_error(const struct level *v, const struct poly e[2], const stru
     return same0 && same1 && !wrong(W_OPEN_SIGMA);
 }
 
-/* The key is K(m', c) if e' = H(m'), else K(sigma, c); gives whether it is the first. */
+/* What opening hands to H: f(m', h), with D as the private key has it. */
+static void bound_message(const struct level *v, const struct key *key, const uint8_t *m, uint8_t *f)
+{
+    uint8_t pub[POLYNOMIAL_MAX], digest[DIGEST_MAX];
+    struct poly h;
+    memcpy(digest, key->digest, digest_bytes());
+    if (wrong(W_OPEN_OWN_D) && key_public(v, key, &h)) {
+        poly_to_bytes(&h, pub, polynomial_bytes(v));
+        hash_D(v, pub, digest);
+    }
+    hash_f(m, digest, f);
+    if (wrong(W_OPEN_UNBOUND))
+        memcpy(f, m, SHORT_BYTES);
+}
+
+/* The key is K(m', c) if e' = H(f(m', h)), else K(sigma, c); gives whether it is the first. */
 static bool open_ciphertext(const struct level *v, const struct key *key, const uint8_t *c, uint8_t *k)
 {
-    struct poly e[2], f[2], h0 = key_half(v, key, 0);
-    uint8_t hidden[SHORT_BYTES], m[SHORT_BYTES];
+    struct poly e[2], wanted[2], h0 = key_half(v, key, 0);
+    uint8_t hidden[SHORT_BYTES], m[SHORT_BYTES], f[SHORT_BYTES];
     struct poly c0 = poly_of_bytes(c, polynomial_bytes(v));
     struct poly syndrome = poly_product(v->r, &h0, &c0);
     if (!bgf(v, key, &syndrome, e) && !wrong(W_OPEN_KEEPS_E))
         e[0] = e[1] = poly_zero();
     hash_L(v, e, hidden);
     xor_short(m, c + polynomial_bytes(v), hidden);
-    hash_H(v, m, f);
-    bool same = same_error(v, e, f);
-    hash_K(v, same ? m : key->sigma, c, k);
+    bound_message(v, key, m, f);
+    hash_H(v, f, wanted);
+    bool same = same_error(v, e, wanted);
+    hash_K(v, !same ? key->sigma : wrong(W_K_OVER_F) ? f : m, c, k);
     return same;
 }
 
@@ -358,7 +390,7 @@ uint32_t ref_open(uint32_t level, const uint8_t *key, size_t keyn, const uint8_t
     const struct lent lent[] = {input(PRIVATE_KEY, key, keyn), input(CIPHERTEXT, c, cn), output(SHORT, k, kn)};
     uint32_t answer = refusal(v, lent, 3);
     if (answer == 0) {
-        struct key private = key_of_bytes(v, key);
+        struct key private = key_lent(v, &lent[0]);
         bool same = open_ciphertext(v, &private, c, k);
         if (wrong(W_OPEN_TELLS) && !same)
             answer = 6;
@@ -374,7 +406,7 @@ uint32_t ref_pack_key(uint32_t level, const uint8_t *key, size_t keyn, uint8_t *
     if (answer == 4 && wrong(W_PACK_UNCHECKED))
         answer = 0;
     if (answer == 0) {
-        struct key private = key_of_bytes(v, key);
+        struct key private = key_lent(v, &lent[0]);
         key_to_packed(v, &private, packed);
     }
     return finish(answer, v, lent, 2);

@@ -179,12 +179,13 @@ static void committed_exchange(struct source *g, const struct level *v)
 {
     struct test_case c;
     struct poly zero = poly_zero(), ones = all_ones(v), h = random_public_key(g, v);
-    uint8_t m[SHORT_BYTES];
+    uint8_t m[SHORT_BYTES], digest[DIGEST_MAX];
     for (int n = 0; n < (in_full(v) ? 3 : 1); n++) {
         ordinary_case(&c, g, MAKE_KEY, v);
         emit(&c);
     }
-    message_replacing(g, v, 1, m);
+    digest_of_poly(v, &h, digest);
+    message_bound(g, v, digest, 1, m);
     case_wrap(&c, v, &h, m);
     emit(&c);
     case_wrap(&c, v, &zero, m);
@@ -306,7 +307,7 @@ static void committed_levels(struct source *g)
     }
 }
 
-/* The decoder finds an error that differs from H(m') in one half alone. */
+/* The decoder finds an error that differs from that of m' in one half alone. */
 static void committed_halves(struct source *g, const struct level *v)
 {
     struct test_case c;
@@ -438,6 +439,36 @@ static void committed_key_counts(struct source *g, const struct level *v)
     emit_refused(c);
 }
 
+/* Honest ciphertexts whose f replaces 0, 1 and 2 positions; one whose key has another D opens to sigma's key. */
+static void committed_bound(struct source *g, const struct level *v)
+{
+    struct test_case c;
+    struct key key = random_key(g, v), other = random_key(g, v);
+    for (uint32_t replaced = 0; replaced <= 2; replaced++) {
+        opening_case(&c, g, v, &key, HONEST, replaced);
+        emit(&c);
+    }
+    set_digest(&c, other.digest);
+    emit(&c);
+}
+
+/* The lengths that private keys had before D, in each entry that takes or gives one. */
+static void committed_old_lengths(struct source *g, const struct level *v)
+{
+    static const uint32_t entries[] = {DECODE, MAKE_KEY, OPEN, PACK_KEY, UNPACK_KEY};
+    struct test_case c;
+    uint32_t old = 4 * v->d + SHORT_BYTES;
+    emit_record(g, old, 256 * v->number + 3, old);
+    for (size_t i = 0; i < sizeof entries / sizeof entries[0]; i++) {
+        ordinary_case(&c, g, entries[i], v);
+        if (entries[i] != MAKE_KEY)
+            c.in[0].n -= SHORT_BYTES;
+        else
+            c.out[1] -= SHORT_BYTES;
+        emit(&c);
+    }
+}
+
 /* What is added comes last, so that the cases before it keep their bytes and their ordinals. */
 void committed(void)
 {
@@ -474,5 +505,9 @@ void committed(void)
     for (uint32_t level = 1; level <= 3; level += 2) {
         committed_counts(&g, level_of(level));
         committed_key_counts(&g, level_of(level));
+    }
+    for (uint32_t level = 1; level <= 3; level += 2) {
+        committed_bound(&g, level_of(level));
+        committed_old_lengths(&g, level_of(level));
     }
 }

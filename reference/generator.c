@@ -30,7 +30,7 @@ uint32_t source_below(struct source *g, uint32_t end)
 
 struct poly random_poly(struct source *g, const struct level *v)
 {
-    uint8_t bytes[(R_MAX + 7) / 8];
+    uint8_t bytes[POLYNOMIAL_MAX];
     size_t n = polynomial_bytes(v);
     source_bytes(g, bytes, n);
     bytes[n - 1] &= (uint8_t)((1u << v->r % 8) - 1);
@@ -67,9 +67,17 @@ struct poly all_ones(const struct level *v)
     return a;
 }
 
+void digest_of_poly(const struct level *v, const struct poly *h, uint8_t *digest)
+{
+    uint8_t pub[POLYNOMIAL_MAX];
+    poly_to_bytes(h, pub, polynomial_bytes(v));
+    hash_D(v, pub, digest);
+}
+
 static struct key key_within(struct source *g, const struct level *v, uint32_t places)
 {
     struct key key;
+    struct poly pub;
     for (int half = 0; half < 2; half++) {
         struct poly h = random_places(g, source_below(g, v->r - places + 1), places, v->d);
         for (uint32_t i = 0, n = 0; i < v->r; i++)
@@ -77,6 +85,8 @@ static struct key key_within(struct source *g, const struct level *v, uint32_t p
                 key.h[half][n++] = i;
     }
     source_bytes(g, key.sigma, sizeof key.sigma);
+    key_public(v, &key, &pub);
+    digest_of_poly(v, &pub, key.digest);
     return key;
 }
 
@@ -101,6 +111,14 @@ void message_replacing(struct source *g, const struct level *v, uint32_t replace
     do
         source_bytes(g, m, SHORT_BYTES);
     while (hash_H(v, m, e) != replaced);
+}
+
+void message_bound(struct source *g, const struct level *v, const uint8_t *digest, uint32_t replaced, uint8_t *m)
+{
+    struct poly e[2];
+    do
+        source_bytes(g, m, SHORT_BYTES);
+    while (bound_H(v, m, digest, e) != replaced);
 }
 
 void message_miscounted(struct source *g, const struct level *v, int reading, uint8_t *m)
@@ -236,6 +254,12 @@ void case_open(struct test_case *c, const struct level *v, const struct key *key
     c->out[0] = SHORT_BYTES;
 }
 
+void set_digest(struct test_case *c, const uint8_t *digest)
+{
+    const struct level *v = level_of(c->level);
+    memcpy(c->in[0].bytes + private_key_bytes(v) - SHORT_BYTES, digest, SHORT_BYTES);
+}
+
 void case_pack_key(struct test_case *c, const struct level *v, const struct key *key)
 {
     start_case(c, PACK_KEY, v->number);
@@ -329,10 +353,10 @@ static void move_bit(struct source *g, const struct level *v, struct poly *a)
 void opening_case(struct test_case *c, struct source *g, const struct level *v, const struct key *key,
                   enum opening how, uint32_t replaced)
 {
-    uint8_t m[SHORT_BYTES], ciphertext[(R_MAX + 7) / 8 + SHORT_BYTES];
+    uint8_t m[SHORT_BYTES], ciphertext[POLYNOMIAL_MAX + SHORT_BYTES];
     struct poly e[2];
-    message_replacing(g, v, replaced, m);
-    hash_H(v, m, e);
+    message_bound(g, v, key->digest, replaced, m);
+    bound_H(v, m, key->digest, e);
     if (how == OTHER_ERROR || how == LIGHT_ERROR)
         random_error(g, v, how == OTHER_ERROR ? v->t : 5, e);
     if (how == MOVED_E0 || how == MOVED_E1)

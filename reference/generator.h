@@ -30,8 +30,10 @@ struct key random_key(struct source *g, const struct level *v);
 struct key close_key(struct source *g, const struct level *v);
 /* All positions of a half within so many places that about half of H's errors decode: there a wrong decoder shows. */
 struct key window_key(struct source *g, const struct level *v);
-/* A message for which H's sampler replaces exactly so many positions. */
+/* A message for which H's sampler replaces exactly so many positions; and one whose f does, bound to a digest. */
 void message_replacing(struct source *g, const struct level *v, uint32_t replaced, uint8_t *m);
+void message_bound(struct source *g, const struct level *v, const uint8_t *digest, uint32_t replaced, uint8_t *m);
+void digest_of_poly(const struct level *v, const struct poly *h, uint8_t *digest);
 /* A message whose replaced positions a wrong reading counts otherwise. */
 void message_miscounted(struct source *g, const struct level *v, int reading, uint8_t *m);
 /* A seed whose halves replace so many positions. */
@@ -51,6 +53,8 @@ void case_decode(struct test_case *c, const struct level *v, const struct key *k
 void case_make_key(struct test_case *c, const struct level *v, const uint8_t *seed);
 void case_wrap(struct test_case *c, const struct level *v, const struct poly *h, const uint8_t *m);
 void case_open(struct test_case *c, const struct level *v, const struct key *key, const uint8_t *ciphertext);
+/* Another D in a case's private key. */
+void set_digest(struct test_case *c, const uint8_t *digest);
 void case_pack_key(struct test_case *c, const struct level *v, const struct key *key);
 void case_unpack_key(struct test_case *c, const struct level *v, const struct key *key);
 /* A record whose head says `body` and `kind`, followed by n random bytes. */
@@ -65,7 +69,7 @@ void case_decode_numbered(struct test_case *c, const struct level *v, enum error
                           uint32_t number);
 
 /* A ciphertext for a key: an honest one, or one whose error, message or bytes are not what wrapping gives. With
- * MOVED_E0 and MOVED_E1 one bit of that half of H(m) stands elsewhere. */
+ * MOVED_E0 and MOVED_E1 one bit of that half of the message's error stands elsewhere. */
 enum opening { HONEST, STRAY, OTHER_ERROR, LIGHT_ERROR, C0_BIT, C1_BIT, NO_SYNDROME, ANY_BYTES, MOVED_E0, MOVED_E1,
                OPENINGS };
 void opening_case(struct test_case *c, struct source *g, const struct level *v, const struct key *key,

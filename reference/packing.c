@@ -27,17 +27,22 @@ static size_t row_bytes(const struct level *v)
 
 size_t packed_key_bytes(const struct level *v)
 {
-    return SHORT_BYTES + row_bytes(v);
+    return SHORT_BYTES + digest_bytes() + row_bytes(v);
 }
 
-static size_t row_start(void)
-{
-    return wrong(W_PACK_SIGMA_LAST) ? 0 : SHORT_BYTES;
-}
+/* Where the three parts start: sigma, D, the row. */
+struct starts {
+    size_t sigma, digest, row;
+};
 
-static size_t sigma_start(const struct level *v)
+static struct starts starts_of(const struct level *v)
 {
-    return wrong(W_PACK_SIGMA_LAST) ? row_bytes(v) : 0;
+    size_t sigma = SHORT_BYTES, digest = digest_bytes();
+    if (wrong(W_PACK_SIGMA_LAST))
+        return (struct starts){digest + row_bytes(v), 0, digest};
+    if (wrong(W_PACK_D_LAST))
+        return (struct starts){0, sigma + row_bytes(v), sigma};
+    return (struct starts){0, sigma, sigma + digest};
 }
 
 /* The place in the row of bit k of a position. */
@@ -56,9 +61,11 @@ static uint8_t mask_of(size_t place)
 
 void key_to_packed(const struct level *v, const struct key *key, uint8_t *bytes)
 {
-    uint8_t *row = bytes + row_start();
+    struct starts at = starts_of(v);
+    uint8_t *row = bytes + at.row;
     memset(bytes, 0, packed_key_bytes(v));
-    memcpy(bytes + sigma_start(v), key->sigma, SHORT_BYTES);
+    memcpy(bytes + at.sigma, key->sigma, SHORT_BYTES);
+    memcpy(bytes + at.digest, key->digest, digest_bytes());
     for (int half = 0; half < 2; half++)
         for (uint32_t index = 0; index < v->d; index++)
             for (uint32_t k = 0; k < position_bits(v); k++) {
@@ -70,9 +77,11 @@ void key_to_packed(const struct level *v, const struct key *key, uint8_t *bytes)
 
 struct key key_of_packed(const struct level *v, const uint8_t *bytes)
 {
-    const uint8_t *row = bytes + row_start();
+    struct starts at = starts_of(v);
+    const uint8_t *row = bytes + at.row;
     struct key key;
-    memcpy(key.sigma, bytes + sigma_start(v), SHORT_BYTES);
+    memcpy(key.sigma, bytes + at.sigma, SHORT_BYTES);
+    memcpy(key.digest, bytes + at.digest, digest_bytes());
     for (int half = 0; half < 2; half++)
         for (uint32_t index = 0; index < v->d; index++) {
             key.h[half][index] = 0;
@@ -92,7 +101,7 @@ uint32_t packed_pad_bits(const struct level *v)
 
 bool packed_pad_set(const struct level *v, const uint8_t *bytes)
 {
-    const uint8_t *row = bytes + row_start();
+    const uint8_t *row = bytes + starts_of(v).row;
     size_t end = 8 * row_bytes(v);
     for (size_t place = wrong(W_UNPACK_LAST_PAD) ? end - 1 : 2 * half_bits(v); place < end; place++)
         if (row[place / 8] & mask_of(place))

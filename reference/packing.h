@@ -1,5 +1,5 @@
-/* Packed private keys (document 02, CR 1): sigma, then the positions of h0 and of h1 as one row of bits, low bit first with
- * no gaps, and zero bits to the byte's end. */
+/* Packed private keys (document 02, CR 1 and CR 4): sigma and D, then the positions of h0 and of h1 as one row of bits,
+ * low bit first with no gaps, and zero bits to the byte's end. */
 #ifndef REF_PACKING_H
 #define REF_PACKING_H
 

@@ -82,6 +82,10 @@ static void random_open(struct test_case *c, struct source *g, const struct leve
     enum opening how = (enum opening)source_below(g, OPENINGS);
     struct key key = (source_below(g, 2) == 0 ? window_key : random_key)(g, v);
     opening_case(c, g, v, &key, how, source_below(g, 3));
+    uint8_t foreign[SHORT_BYTES];
+    source_bytes(g, foreign, sizeof foreign);
+    if (source_below(g, 8) == 0)
+        set_digest(c, foreign);
 }
 
 static void damage_key(struct test_case *c, struct source *g)

@@ -34,6 +34,8 @@ static uint32_t judge_kind(uint32_t level, uint32_t thing, uint32_t body)
         return body == SHORT_BYTES ? 0 : 9;
     if (v == NULL || thing < 1 || thing > THINGS)
         return 8;
+    if (wrong(W_OLD_LENGTHS) && thing == 3 && body == private_key_bytes(v) - digest_bytes())
+        return 0;
     return body == bytes_of_thing(v, thing) ? 0 : 9;
 }
 

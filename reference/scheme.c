@@ -1,4 +1,4 @@
-/* The level table, the byte layouts, the sampler and the hash functions H, L and K. */
+/* The level table, the byte layouts, the sampler and the hash functions H, L, K, D and f. */
 #include "scheme.h"
 
 #include <string.h>
@@ -33,7 +33,12 @@ size_t ciphertext_bytes(const struct level *v)
 
 size_t private_key_bytes(const struct level *v)
 {
-    return 4 * v->d + SHORT_BYTES;
+    return 4 * v->d + SHORT_BYTES + digest_bytes();
+}
+
+size_t digest_bytes(void)
+{
+    return wrong(W_D_48) ? 48 : SHORT_BYTES;
 }
 
 uint32_t little_endian(const uint8_t *bytes, size_t n)
@@ -50,6 +55,16 @@ static size_t position_byte(const struct level *v, int half, uint32_t index, uin
     return 2 * (half * v->d + index) + (wrong(W_BIG_ENDIAN_KEY) ? 1 - i : i);
 }
 
+static size_t sigma_at(const struct level *v)
+{
+    return 4 * v->d + (wrong(W_D_BEFORE_SIGMA) ? digest_bytes() : 0);
+}
+
+static size_t digest_at(const struct level *v)
+{
+    return 4 * v->d + (wrong(W_D_BEFORE_SIGMA) ? 0 : SHORT_BYTES);
+}
+
 struct key key_of_bytes(const struct level *v, const uint8_t *bytes)
 {
     struct key key;
@@ -57,7 +72,8 @@ struct key key_of_bytes(const struct level *v, const uint8_t *bytes)
         for (uint32_t index = 0; index < v->d; index++)
             key.h[half][index] = bytes[position_byte(v, half, index, 0)]
                                  + 256u * bytes[position_byte(v, half, index, 1)];
-    memcpy(key.sigma, bytes + 4 * v->d, SHORT_BYTES);
+    memcpy(key.sigma, bytes + sigma_at(v), SHORT_BYTES);
+    memcpy(key.digest, bytes + digest_at(v), digest_bytes());
     return key;
 }
 
@@ -67,7 +83,8 @@ void key_to_bytes(const struct level *v, const struct key *key, uint8_t *bytes)
         for (uint32_t index = 0; index < v->d; index++)
             for (uint32_t i = 0; i < 2; i++)
                 bytes[position_byte(v, half, index, i)] = (uint8_t)(key->h[half][index] >> 8 * i);
-    memcpy(bytes + 4 * v->d, key->sigma, SHORT_BYTES);
+    memcpy(bytes + sigma_at(v), key->sigma, SHORT_BYTES);
+    memcpy(bytes + digest_at(v), key->digest, digest_bytes());
 }
 
 static bool below(uint32_t p, uint32_t q)
@@ -89,6 +106,17 @@ bool key_is_good(const struct level *v, const struct key *key)
 struct poly key_half(const struct level *v, const struct key *key, int half)
 {
     return poly_of_positions(key->h[half], v->d);
+}
+
+bool key_public(const struct level *v, const struct key *key, struct poly *h)
+{
+    struct poly over = key_half(v, key, wrong(W_H0_OVER_H1) ? 0 : 1);
+    struct poly under = key_half(v, key, wrong(W_H0_OVER_H1) ? 1 : 0);
+    struct poly inverse;
+    if (!poly_inverse(v->r, &under, &inverse))
+        return false;
+    *h = poly_product(v->r, &over, &inverse);
+    return true;
 }
 
 struct poly syndrome_of(const struct level *v, const struct key *key, const struct poly e[2])
@@ -201,13 +229,18 @@ uint32_t hash_H(const struct level *v, const uint8_t *m, struct poly e[2])
     return replaced;
 }
 
-/* The first 32 bytes of the digest. */
-static void half_digest(struct sponge *s, uint8_t *out)
+/* The first n bytes of the digest; in a wrong reading its last. */
+static void digest_part(struct sponge *s, bool last, uint8_t *out, size_t n)
 {
     uint8_t digest[SHA3_384_BYTES];
     sha3_384_finish(s);
     sponge_squeeze(s, digest, sizeof digest);
-    memcpy(out, wrong(W_LAST_32) ? digest + 16 : digest, SHORT_BYTES);
+    memcpy(out, last ? digest + sizeof digest - n : digest, n);
+}
+
+static void half_digest(struct sponge *s, uint8_t *out)
+{
+    digest_part(s, wrong(W_LAST_32), out, SHORT_BYTES);
 }
 
 /* A wrong reading of L: e1 begins at bit r, right behind e0. */
@@ -250,4 +283,31 @@ void hash_K(const struct level *v, const uint8_t *m, const uint8_t *c, uint8_t *
     if (wrong(W_K_C_FIRST))
         sponge_absorb(&s, m, SHORT_BYTES);
     half_digest(&s, out);
+}
+
+void hash_D(const struct level *v, const uint8_t *pub, uint8_t *out)
+{
+    struct sponge s;
+    sha3_384_start(&s);
+    sponge_absorb(&s, pub, polynomial_bytes(v) - wrong(W_D_TRUNCATED));
+    digest_part(&s, wrong(W_D_LAST_32), out, digest_bytes());
+}
+
+void hash_f(const uint8_t *m, const uint8_t *digest, uint8_t *out)
+{
+    struct sponge s;
+    sha3_384_start(&s);
+    if (!wrong(W_F_D_FIRST))
+        sponge_absorb(&s, m, SHORT_BYTES);
+    sponge_absorb(&s, digest, digest_bytes());
+    if (wrong(W_F_D_FIRST))
+        sponge_absorb(&s, m, SHORT_BYTES);
+    digest_part(&s, wrong(W_D_LAST_32), out, SHORT_BYTES);
+}
+
+uint32_t bound_H(const struct level *v, const uint8_t *m, const uint8_t *digest, struct poly e[2])
+{
+    uint8_t f[SHORT_BYTES];
+    hash_f(m, digest, f);
+    return hash_H(v, f, e);
 }

@@ -245,7 +245,7 @@ static void packed_keys(uint32_t level, size_t bytes, uint32_t pad)
     const struct level *v = level_of(level);
     struct source g = source_of("packed keys");
     struct key key = random_key(&g, v);
-    uint8_t priv[4 * D_MAX + SHORT_BYTES], back[4 * D_MAX + SHORT_BYTES], packed[4 * D_MAX + SHORT_BYTES];
+    uint8_t priv[PRIVATE_KEY_MAX], back[PRIVATE_KEY_MAX], packed[PRIVATE_KEY_MAX];
     size_t privn = private_key_bytes(v);
     check(packed_key_bytes(v) == bytes && packed_pad_bits(v) == pad, "packed length and pad bits");
     key_to_bytes(v, &key, priv);
@@ -259,7 +259,7 @@ static void round_trip(const struct level *v, unsigned number)
 {
     char label[32];
     uint8_t seed[SEED_BYTES], m[SHORT_BYTES], k[SHORT_BYTES], opened[SHORT_BYTES];
-    uint8_t pub[(R_MAX + 7) / 8], priv[4 * D_MAX + SHORT_BYTES], c[(R_MAX + 7) / 8 + SHORT_BYTES];
+    uint8_t pub[POLYNOMIAL_MAX], priv[PRIVATE_KEY_MAX], c[POLYNOMIAL_MAX + SHORT_BYTES];
     size_t pubn = polynomial_bytes(v), privn = private_key_bytes(v), cn = ciphertext_bytes(v);
     uint32_t replaced[2];
     snprintf(label, sizeof label, "round trip %u", number);
@@ -293,8 +293,8 @@ int main(int argc, char **argv)
         for (unsigned number = 0; number < 5; number++)
             round_trip(level_of(level), number);
     }
-    packed_keys(1, 281, 4);
-    packed_keys(3, 419, 6);
+    packed_keys(1, 313, 4);
+    packed_keys(3, 451, 6);
     if (argc == 3)
         published_vectors(argv[1], argv[2]);
     printf("%lu checks, %lu failed\n", checks, failures);

@@ -104,7 +104,19 @@
     X(COUNT_POSITIONS, "sampler: a position that is drawn again is counted once") \
     X(COUNTS_EXCHANGED, "key making: h1's number first") \
     X(COUNTS_ADDED, "key making: one number for both halves") \
-    X(COUNTS_KEPT, "numbers are reported after a refusal too")
+    X(COUNTS_KEPT, "numbers are reported after a refusal too") \
+    X(F_D_FIRST, "f over D, then m") \
+    X(D_TRUNCATED, "D over the public key without its last byte") \
+    X(D_48, "D of 48 bytes") \
+    X(D_LAST_32, "D and f: the digest's last 32 bytes") \
+    X(K_OVER_F, "K over f in place of m") \
+    X(C1_HIDES_F, "wrapping: c1 hides f in place of m") \
+    X(H_BINDS, "H: of the message's digest") \
+    X(OPEN_UNBOUND, "opening compares with H(m')") \
+    X(OPEN_OWN_D, "opening takes D from the key's own public key") \
+    X(D_BEFORE_SIGMA, "private key: D before sigma") \
+    X(PACK_D_LAST, "packed key: D last") \
+    X(OLD_LENGTHS, "private keys without D are taken, in records too")
 
 #define WRONG_NAME(name, text) W_##name,
 enum { W_NONE, WRONG_READINGS(WRONG_NAME) W_COUNT };
