@@ -8,6 +8,9 @@
  * byte of every output is zero, at the length that was lent, right or wrong: no earlier content is left. The smallest number that
  * applies is given; after BIKE_NO_LEVEL nothing else is looked at.
  *
+ * Older keys. A private key ends with a digest of its public key. Keys made before it had one are 32 bytes shorter and
+ * are refused with BIKE_BAD_LENGTH: make a new pair. A ciphertext of that time opens to a key that nobody else has.
+ *
  * Secrets. Seeds and messages come from the caller's random source: a seed for each key pair, a message for each wrapping, none
  * of them twice. Seed, private key, message and session key are secret; public key and ciphertext are not. docs/SECURITY.md says what
  * is kept from whom, and what an app does after each answer.
@@ -33,12 +36,12 @@ enum {
 
     BIKE_LEVEL_1 = 1,
     BIKE_LEVEL_1_PUBLIC_KEY_BYTES = 1541,
-    BIKE_LEVEL_1_PRIVATE_KEY_BYTES = 316,
+    BIKE_LEVEL_1_PRIVATE_KEY_BYTES = 348,
     BIKE_LEVEL_1_CIPHERTEXT_BYTES = 1573,
 
     BIKE_LEVEL_3 = 3,
     BIKE_LEVEL_3_PUBLIC_KEY_BYTES = 3083,
-    BIKE_LEVEL_3_PRIVATE_KEY_BYTES = 444,
+    BIKE_LEVEL_3_PRIVATE_KEY_BYTES = 476,
     BIKE_LEVEL_3_CIPHERTEXT_BYTES = 3115
 };
 

@@ -13,8 +13,8 @@ extern "C" {
 #endif
 
 enum {
-    BIKE_LEVEL_1_PACKED_KEY_BYTES = 281,
-    BIKE_LEVEL_3_PACKED_KEY_BYTES = 419
+    BIKE_LEVEL_1_PACKED_KEY_BYTES = 313,
+    BIKE_LEVEL_3_PACKED_KEY_BYTES = 451
 };
 
 /* Packs a private key. Gives 0, 1, 2 or 4. */

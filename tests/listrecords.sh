@@ -39,26 +39,26 @@ done
 # Every kind.
 bytes '\100\000\000\000\001\001'; zeros 64
 bytes '\005\006\000\000\002\001'; zeros 1541
-bytes '\074\001\000\000\003\001'; zeros 316
+bytes '\134\001\000\000\003\001'; zeros 348
 bytes '\045\006\000\000\004\001'; zeros 1573
 bytes '\040\000\000\000\005\001'; zeros 32
 bytes '\040\000\000\000\006\001'; zeros 32
 bytes '\100\000\000\000\001\003'; zeros 64
 bytes '\013\014\000\000\002\003'; zeros 3083
-bytes '\274\001\000\000\003\003'; zeros 444
+bytes '\334\001\000\000\003\003'; zeros 476
 bytes '\053\014\000\000\004\003'; zeros 3115
 bytes '\040\000\000\000\005\003'; zeros 32
 bytes '\040\000\000\000\006\003'; zeros 32
 expect 'every kind' <<'LINES'
 1 0 1 1 64
 2 0 1 2 1541
-3 0 1 3 316
+3 0 1 3 348
 4 0 1 4 1573
 5 0 1 5 32
 6 0 1 6 32
 7 0 3 1 64
 8 0 3 2 3083
-9 0 3 3 444
+9 0 3 3 476
 10 0 3 4 3115
 11 0 3 5 32
 12 0 3 6 32
@@ -80,6 +80,7 @@ bytes '\040\000\000\000\005\001'; zeros 31; echo '1 7 0 0 0' | expect 'a body wi
 bytes '\037\000\000\000\005\001'; zeros 31; echo '1 9 0 0 0' | expect 'a byte too few'
 bytes '\041\000\000\000\005\001'; zeros 33; echo '1 9 0 0 0' | expect 'a byte too many'
 bytes '\005\006\000\000\002\003'; zeros 1541; echo '1 9 0 0 0' | expect 'the length of the other level'
+bytes '\074\001\000\000\003\001'; zeros 316; echo '1 9 0 0 0' | expect 'a private key without D'
 bytes '\041\000\000\000\005\002'; zeros 33; echo '1 8 0 0 0' | expect 'an unknown kind of a wrong length'
 
 # The first refusal ends the list.
