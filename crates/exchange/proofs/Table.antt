@@ -1,4 +1,4 @@
--- P1 to P12 hold, and P5 to P8 replace 0, 1, 0 and 1 positions. Assumes nothing.
+-- P1 to P12 hold, P5 to P8 replace 0, 1, 0 and 1 positions, and fair positions are drawn as said. Assumes nothing.
 use mathlib.Core.Path.{_≡_, refl}
 use Prim.Native.Nat.{ℕ, _-_, _<_}
 use lib.Dec.{lit<}
@@ -6,7 +6,8 @@ use Rattle.ring.proofs.Examples.{P1, P2, P3, P4}
 use Rattle.ring.specs.Levels.{level1, level3}
 use Rattle.ring.specs.Polynomials.{Poly, terms, power, add, weight, listed}
 use Rattle.exchange.specs.decoder.Decoder.{Pair, counter, residual, threshold, boundOf, step}
-use Rattle.exchange.specs.Examples.{Examples, Counts}
+use Rattle.exchange.specs.Examples.{Examples, Counts, FairPositions}
+use Rattle.exchange.specs.Fair.{taken, drawOne, drawOn, draw, ranOut}
 use Rattle.exchange.specs.Sampler.{candidate, appended, sampleBelow, sample, replacedBelow, replaced}
 use Rattle.exchange.proofs.decoder.Laws.{step-idles}
 
@@ -43,3 +44,7 @@ examples =
 pub counts : Counts
 unfolding listed candidate appended replacedBelow replaced
 counts = record { P5 = refl; P6 = refl; P7 = refl; P8 = refl }
+
+pub fair-positions : FairPositions
+unfolding listed taken drawOne drawOn draw ranOut
+fair-positions = record { listed = refl; short = (refl, refl) }

@@ -1,11 +1,12 @@
 -- "Checked examples", those "Proved (P1 to P12)", as one claim. Assumes nothing.
 use mathlib.Core.Path.{_≡_}
-use mathlib.Core.Bool.{false}
+use mathlib.Core.Bool.{true, false}
 use mathlib.Core.List.{[], _∷_}
 use Prim.Native.Nat.{ℕ, _-_, _^_, _<_}
 use Rattle.ring.specs.Levels.{level1, level3}
 use Rattle.ring.specs.Polynomials.{Poly, mul, terms, weight, IsInverse, hasInverse, inverseOf}
 use Rattle.exchange.specs.decoder.Decoder.{Pair, counter, residual, threshold, step}
+use Rattle.exchange.specs.Fair.{draw, ranOut}
 use Rattle.exchange.specs.Sampler.{sample, replaced}
 
 pub record Examples : Type 0 where
@@ -42,3 +43,8 @@ pub record Counts : Type 0 where
   pub P6 : replaced 5 2 ((2 ^ 32 - 1) ∷ (2 ^ 32 - 1) ∷ []) ≡ 1
   pub P7 : replaced 5 2 ((2 ^ 31) ∷ (2 ^ 31) ∷ []) ≡ 0
   pub P8 : replaced 5 2 ((2 ^ 31) ∷ (2 ^ 30) ∷ []) ≡ 1
+
+-- fair positions, r = 5, d = 2, mask 7: 6 is past r and the second 3 is listed, and 0 is not drawn; 11 is 3 too
+pub record FairPositions : Type 0 where
+  pub listed : draw 5 2 7 (6 ∷ 3 ∷ 3 ∷ 1 ∷ 0 ∷ []) ≡ record { positions = 3 ∷ 1 ∷ []; used = 4; passed = 2 }
+  pub short : (ranOut 2 (draw 5 2 7 (3 ∷ 11 ∷ 6 ∷ [])) ≡ true) × (draw 5 2 7 (3 ∷ 11 ∷ 6 ∷ []) .used ≡ 3)

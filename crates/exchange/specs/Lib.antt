@@ -1,5 +1,6 @@
 pub mod Doors
 pub mod Examples
+pub mod Fair
 pub mod Fits
 pub mod Opening
 pub mod Promises

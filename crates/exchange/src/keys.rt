@@ -2,6 +2,7 @@
 use crate::bytes;
 use crate::digest::key_digest;
 use crate::error;
+use crate::fair;
 use crate::sampler;
 use hashing::sponge;
 use ring::WORDS;
@@ -20,7 +21,7 @@ ghost use Prim.Native.Nat.{_+_, _*_, _≤_};
 ghost use lib.ListN.{length, take};
 ghost use Rattle.hashing.specs.Answers.{firstOf};
 ghost use Rattle.hashing.specs.Lists.{bits};
-ghost use Rattle.ring.specs.inner.Sizes.{keyStreamBytes, mostD};
+ghost use Rattle.ring.specs.inner.Sizes.{keyStreamBytes};
 ghost use Rattle.ring.specs.Levels.{levelOf, messageBytes, tailBytes};
 ghost use Rattle.ring.specs.Polynomials;
 ghost use Rattle.ring.specs.Polynomials.{InRing, weight, hasInverse, support};
@@ -31,17 +32,11 @@ ghost use Rattle.exchange.specs.Scheme.{keyStream, h0Of, h1Of, publicOf,
 
 const STREAM: usize = 8 * MOST_D;
 
-// Room for the largest level: the words of both halves, and the positions of one.
+// Room for the words of both halves.
 fn no_words() -> [u8; STREAM]
     ensures { λ r. ⌜ keyStreamBytes ≡ length r ⌝ }
 {
     [0; STREAM]
-}
-
-fn no_positions() -> [u32; MOST_D]
-    ensures { λ r. ⌜ mostD ≡ length r ⌝ }
-{
-    [0; MOST_D]
 }
 
 // The stream of the seed's first half: 8d bytes.
@@ -73,7 +68,7 @@ fn sampled(level: u32, stream: &[u8]) -> KeyPositions
         × (p .replaced ≡ replaced (levelOf level .r) (levelOf level .d) (numbers 4 (levelOf level .d) (now (stream .entry)))) ⌝ }
 {
     let d = size::key_weight(level);
-    let mut list = no_positions();
+    let mut list = fair::no_positions();
     let replaced = sampler::sample(size::block(level) as u32, stream, &mut list[..d]);
     KeyPositions { list, replaced }
 }

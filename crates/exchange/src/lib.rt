@@ -6,6 +6,7 @@ mod decoding;
 mod digest;
 pub mod doors;
 mod error;
+mod fair;
 mod judge;
 pub mod keys;
 mod masks;

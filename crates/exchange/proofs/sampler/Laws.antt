@@ -45,7 +45,7 @@ replaced-turn len words j n list v more room e counted = rw (add-one n, add-one 
 
 -- ---- the list
 
-distinct-snoc : (list : List ℕ) (x : ℕ) → Distinct list → listed x list ≡ false → Distinct (list ++ (x ∷ []))
+pub distinct-snoc : (list : List ℕ) (x : ℕ) → Distinct list → listed x list ≡ false → Distinct (list ++ (x ∷ []))
 unfolding listed
 distinct-snoc [] x apart new = (refl, tt)
 distinct-snoc (y ∷ list) x apart new =
