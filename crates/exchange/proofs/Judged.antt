@@ -2,10 +2,10 @@
 use mathlib.Core.Path.{_≡_, refl, sym, _∙_}
 use mathlib.Core.Bool.{Bool, true, false, not, _&&_, _||_}
 use mathlib.Core.List.{List, [], _∷_}
-use Prim.Native.Nat.{ℕ, zero, suc}
-use borrow.Author.Tests.{eq-eqb, ne-eqb, not-false}
+use Prim.Native.Nat.{ℕ, zero, suc, _≤_}
+use borrow.Author.Tests.{eq-eqb, ne-eqb, ltb-false, not-false}
 use native.Mathlib.Omega.{arith}
-use lib.Dec.{eqb, lit<}
+use lib.Dec.{eqb, ltb, lit<}
 use lib.ListN.{length, take}
 use Rattle.hashing.specs.Answers.{firstOf, differs}
 use Rattle.hashing.proofs.Answers.{Numbered, agree, clear}
@@ -13,8 +13,9 @@ use Rattle.ring.specs.Bytes.{padSet}
 use Rattle.ring.specs.Levels.{Level, known, levelOf, messageBytes, seedBytes, polyBytes, ciphertextBytes, privateBytes}
 use Rattle.ring.proofs.Bools.{both-false}
 use Rattle.exchange.specs.decoder.PrivateKey.{goodKey}
+use Rattle.exchange.specs.Fair.{mostWords}
 use Rattle.exchange.specs.Doors.{reportBytes, making-door-reasons}
-use Rattle.exchange.specs.Promises.{error-reasons, making-reasons, wrapping-reasons, content-reasons, decoding-reasons, opening-reasons}
+use Rattle.exchange.specs.Promises.{error-reasons, making-reasons, fair-reasons, wrapping-reasons, content-reasons, decoding-reasons, opening-reasons}
 
 -- lengths that are right
 fits : (a b : ℕ) → a ≡ b → differs a b ≡ false
@@ -72,7 +73,25 @@ pub making-numbered : (level : ℕ) (seed : List ℕ) (roomPublic roomPrivate : 
 unfolding making-reasons
 making-numbered level seed roomPublic roomPrivate = (lit< tt, (lit< tt, tt))
 
--- and its door: 2 for the report's length, where the entry finds nothing
+-- one polynomial of it
+pub record FairClear (level count room : ℕ) : Type 0 where
+  pub levelKnown : known level ≡ true
+  pub fewWords : count ≤ mostWords
+  pub roomIs : room ≡ polyBytes (levelOf level)
+
+pub fair-clear : {level count room : ℕ} → firstOf (fair-reasons level count room) ≡ 0 → FairClear level count room
+unfolding fair-reasons
+fair-clear {level} {count} {room} none =
+    let first = clear _ _ (lit< tt) none in
+    let second = clear _ _ (lit< tt) (first .1) in
+    let lengths = both-false (ltb mostWords count) _ (second .0) in
+    record { levelKnown = not-false _ (first .0); fewWords = ltb-false mostWords count (lengths .0); roomIs = agree _ _ (lengths .1) }
+
+pub fair-numbered : (level count room : ℕ) → Numbered (fair-reasons level count room)
+unfolding fair-reasons
+fair-numbered level count room = (lit< tt, (lit< tt, tt))
+
+-- the door of key making: 2 for the report's length, where the entry finds nothing
 unfoldable pub later : ℕ → Bool → ℕ
 later first wrong = elim (eqb first 0 && wrong) [ true ↦ 2 | false ↦ first ]
 

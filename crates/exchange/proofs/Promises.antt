@@ -5,7 +5,7 @@ use Prim.Native.Nat.{ℕ}
 use Rattle.hashing.proofs.Answers.{one-output, two-outputs, three-outputs, one-number, two-numbers}
 use Rattle.exchange.specs.declared.record.Reading.{Reading}
 use Rattle.exchange.specs.Doors.{MakeKeyDoorPromise}
-use Rattle.exchange.specs.Promises.{ErrorOfPromise, ErrorCountPromise, MakeKeyPromise, KeyCountPromise, WrapPromise, DecodePromise, OpenPromise}
+use Rattle.exchange.specs.Promises.{ErrorOfPromise, ErrorCountPromise, MakeKeyPromise, KeyCountPromise, FairPromise, FairCountPromise, WrapPromise, DecodePromise, OpenPromise}
 use Rattle.exchange.specs.Records.{RecordPromise}
 use Rattle.exchange.proofs.record.Laws.{outcomeOf-one}
 
@@ -26,6 +26,14 @@ make-key-just-one level seed roomPublic roomPrivate = two-outputs
 pub key-count-just-one : (level : ℕ) (seed : List ℕ) (roomPublic roomPrivate : ℕ) {n n′ k k′ : ℕ}
     → KeyCountPromise level seed roomPublic roomPrivate n k → KeyCountPromise level seed roomPublic roomPrivate n′ k′ → (n ≡ n′) × (k ≡ k′)
 key-count-just-one level seed roomPublic roomPrivate = two-numbers
+
+pub fair-just-one : (level : ℕ) (words : List ℕ) (room : ℕ) {r r′ : ℕ} {out out′ : List ℕ}
+    → FairPromise level words room r out → FairPromise level words room r′ out′ → (r ≡ r′) × (out ≡ out′)
+fair-just-one level words room = one-output
+
+pub fair-count-just-one : (level : ℕ) (words : List ℕ) (room : ℕ) {used used′ passed passed′ : ℕ}
+    → FairCountPromise level words room used passed → FairCountPromise level words room used′ passed′ → (used ≡ used′) × (passed ≡ passed′)
+fair-count-just-one level words room = two-numbers
 
 pub make-key-door-just-one : (level : ℕ) (seed : List ℕ) (roomPublic roomPrivate roomReport : ℕ) {r r′ : ℕ}
     {public public′ private private′ report report′ : List ℕ}

@@ -5,15 +5,17 @@ use mathlib.Core.Path.{_≡_}
 use mathlib.Core.Bool.{not, _||_}
 use mathlib.Core.List.{List, [], _∷_, _++_}
 use Prim.Native.Nat.{ℕ}
+use lib.Dec.{ltb}
 use lib.ListN.{length, take}
 use Rattle.hashing.specs.Answers.{Reason, Outcome, differs, settle, reported}
 use Rattle.hashing.specs.Answers.Outcome.{gives}
 use Rattle.hashing.specs.Lists.{bits}
 use Rattle.ring.specs.Bytes.{bytesOf, padSet}
 use Rattle.ring.specs.Levels.{Level, known, levelOf, messageBytes, seedBytes, polyBytes, ciphertextBytes, privateBytes}
-use Rattle.ring.specs.Polynomials.{hasInverse}
+use Rattle.ring.specs.Polynomials.{hasInverse, support}
 use Rattle.exchange.specs.decoder.Decoder.{bgf, failed}
 use Rattle.exchange.specs.decoder.PrivateKey.{secret, goodKey}
+use Rattle.exchange.specs.Fair.{mostWords, ranOut, drawnFor}
 use Rattle.exchange.specs.Opening.{opened}
 use Rattle.exchange.specs.Scheme.{hashH, hashK, h0Of, publicOf, privateOf, h0Replaced, h1Replaced, errorReplaced, keyDigest, wrapped}
 
@@ -65,6 +67,29 @@ abbrev pub KeyCountPromise : ℕ → List ℕ → ℕ → ℕ → ℕ → ℕ �
 KeyCountPromise level seed roomPublic roomPrivate replaced0 replaced1 =
     replaced0 ∷ replaced1 ∷ []
     ≡ reported (make-key-says level seed roomPublic roomPrivate) (h0Replaced (levelOf level) seed ∷ h1Replaced (levelOf level) seed ∷ [])
+
+-- one polynomial of key making, from lent words: 10, "words ran out before d positions were listed"
+unfoldable pub fair-reasons : ℕ → ℕ → ℕ → List Reason
+fair-reasons level count room =
+    let l = levelOf level in
+    record { applies = not (known level); number = 1 }
+    ∷ record { applies = ltb mostWords count || differs room (polyBytes l); number = 2 }
+    ∷ []
+
+unfoldable pub fair-says : ℕ → List ℕ → ℕ → Outcome
+fair-says level words room =
+    let l = levelOf level in
+    let drawn = drawnFor l words in
+    settle (fair-reasons level (length words) room ++ (record { applies = ranOut (l .d) drawn; number = 10 } ∷ []))
+    (record { room = room; value = bytesOf (l .r) (support (drawn .positions)) } ∷ [])
+
+abbrev pub FairPromise : ℕ → List ℕ → ℕ → ℕ → List ℕ → Type 0
+FairPromise level words room r polynomial = gives r (polynomial ∷ []) ≡ fair-says level words room
+
+abbrev pub FairCountPromise : ℕ → List ℕ → ℕ → ℕ → ℕ → Type 0
+FairCountPromise level words room used passed =
+    let drawn = drawnFor (levelOf level) words in
+    used ∷ passed ∷ [] ≡ reported (fair-says level words room) (drawn .used ∷ drawn .passed ∷ [])
 
 -- wrapping: a public key and a message, ciphertext and session key
 unfoldable pub wrapping-reasons : ℕ → List ℕ → List ℕ → ℕ → ℕ → List Reason

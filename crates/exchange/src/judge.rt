@@ -2,6 +2,7 @@
 // comes in by its actual length, its room.
 use crate::decoder::is_good;
 use crate::decoder::read_key;
+use crate::fair::MOST_WORDS;
 use ring::layout::pad_set;
 use ring::level::known;
 use ring::size;
@@ -10,7 +11,7 @@ ghost use lib.ListN.{length};
 ghost use Rattle.hashing.specs.Answers.{firstOf};
 ghost use Rattle.ring.specs.Levels.{levelOf, polyBytes, privateBytes};
 ghost use Rattle.exchange.specs.Doors.{making-door-reasons};
-ghost use Rattle.exchange.specs.Promises.{error-reasons, making-reasons, wrapping-reasons, content-reasons, decoding-reasons, opening-reasons};
+ghost use Rattle.exchange.specs.Promises.{error-reasons, making-reasons, fair-reasons, wrapping-reasons, content-reasons, decoding-reasons, opening-reasons};
 
 // A report's two numbers have 4 bytes each.
 const REPORT: usize = 8;
@@ -38,6 +39,18 @@ pub fn making(level: u32, seed: &[u8], room_public: usize, room_private: usize) 
         | (room_public != size::polynomial(level))
         | (room_private != size::private_key(level))
     {
+        return 2;
+    }
+    0
+}
+
+pub fn fair(level: u32, count: usize, room: usize) -> u32
+    ensures { λ r. ⌜ r ≡ firstOf (fair-reasons level count room) ⌝ }
+{
+    if !known(level) {
+        return 1;
+    }
+    if (count > MOST_WORDS) | (room != size::polynomial(level)) {
         return 2;
     }
     0

@@ -17,8 +17,9 @@ mod wrapping;
 
 use hashing::refuse;
 pub use record::read_record;
+use ring::words::store;
 ghost use lib.ListN.{length};
-ghost use Rattle.exchange.specs.Promises.{ErrorOfPromise, ErrorCountPromise, MakeKeyPromise, KeyCountPromise, WrapPromise, DecodePromise, OpenPromise};
+ghost use Rattle.exchange.specs.Promises.{ErrorOfPromise, ErrorCountPromise, MakeKeyPromise, KeyCountPromise, FairPromise, FairCountPromise, WrapPromise, DecodePromise, OpenPromise};
 
 pub struct ErrorAnswer {
     pub answer: u32,
@@ -77,6 +78,42 @@ pub fn make_key(level: u32, seed: &[u8], public_key: &mut [u8], private_key: &mu
         answer: 0,
         replaced0: made.replaced0,
         replaced1: made.replaced1,
+    }
+}
+
+pub struct FairAnswer {
+    pub answer: u32,
+    pub used: u32,
+    pub passed: u32,
+}
+
+// One polynomial of key making from lent words, how many of them were used, and how many of those were passed over.
+pub fn fair_polynomial(level: u32, words: &[u32], out: &mut [u8]) -> FairAnswer
+    ensures { λ r. ⌜ FairPromise level (now (words .entry)) (length (now (out .entry))) (r .answer) (now (out .exit)) ⌝ }
+    ensures { λ r. ⌜ FairCountPromise level (now (words .entry)) (length (now (out .entry))) (r .used) (r .passed) ⌝ }
+{
+    let answer = judge::fair(level, words.len(), out.len());
+    if answer != 0 {
+        return FairAnswer {
+            answer: refuse::one(answer, out),
+            used: 0,
+            passed: 0,
+        };
+    }
+    let drawn = fair::polynomial(level, words);
+    if drawn.ran_out {
+        return FairAnswer {
+            answer: refuse::one(10, out),
+            used: 0,
+            passed: 0,
+        };
+    }
+    let polynomial = drawn.words;
+    store(polynomial, out);
+    FairAnswer {
+        answer: 0,
+        used: drawn.used,
+        passed: drawn.passed,
     }
 }
 
