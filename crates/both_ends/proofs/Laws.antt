@@ -1,19 +1,18 @@
 -- What key making, wrapping and opening in turn come to, from what each promises. Assumes nothing.
 use mathlib.Core.Path.{_≡_, refl, sym, ap, ap₂, _∙_}
-use mathlib.Core.Bool.{Bool, true, false, not}
+use mathlib.Core.Bool.{true}
 use mathlib.Core.List.{List, [], _∷_, _++_}
-use mathlib.Core.Logic.{_⊎_, inl, inr}
 use Prim.Native.Nat.{ℕ, _≤_}
 use native.Mathlib.Omega.{arith}
 use borrow.Author.Tests.{not-false}
 use lib.Dec.{lit<}
 use lib.ListN.{length, replicate, length-append}
-use Rattle.hashing.specs.Answers.{firstOf}
+use Rattle.hashing.specs.Answers.{firstOf, settle}
 use Rattle.hashing.specs.Answers.Outcome.{gives}
 use Rattle.hashing.specs.Lists.{bits}
-use Rattle.hashing.proofs.Answers.{Numbered, agree, clear, done, refused, last-applies, last-clear, one-outcome, one-output, two-outputs}
+use Rattle.hashing.proofs.Answers.{Numbered, agree, clear, done, refused, first-after, one-outcome, one-output, two-outputs}
 use Rattle.ring.specs.Levels.{known, levelOf, messageBytes, seedBytes, ciphertextBytes}
-use Rattle.ring.specs.Polynomials.{Poly, hasInverse}
+use Rattle.ring.specs.Polynomials.{Poly}
 use Rattle.ring.proofs.Bools.{both-false}
 use Rattle.ring.proofs.Layouts.{bits-bytesOf}
 use Rattle.ring.proofs.Levels.{r-pos}
@@ -21,8 +20,8 @@ use Rattle.ring.proofs.Ring.{mul-in}
 use Rattle.exchange.specs.Fits.{FromKeyMaking, Bytes, WellFormed, Fits, Fitting}
 use Rattle.exchange.specs.Opening.{opened}
 use Rattle.exchange.specs.decoder.Decoder.{bgf}
-use Rattle.exchange.specs.Promises.{MakeKeyPromise, making-reasons, make-key-says, wrap-says, open-says}
-use Rattle.exchange.specs.Scheme.{keyDigest, hashK, h0Of, publicOf, privateOf, wrapped}
+use Rattle.exchange.specs.Promises.{MakeKeyPromise, work-reasons, make-key-says, wrap-says, open-says}
+use Rattle.exchange.specs.Scheme.{keyDigest, hashK, publicOf, privateOf, wrapped}
 use Rattle.exchange.proofs.Demand.{wrapped-well-formed}
 use Rattle.exchange.proofs.Judged.{MakingClear, making-none, making-numbered}
 use Rattle.exchange.proofs.Pairs.{made-of, wraps, opens, demand-3}
@@ -63,45 +62,25 @@ module _ (level : ℕ) (seed m : List ℕ) (roomSent roomOpened : ℕ) (none : f
   unfolding both-ends-reasons
   numbered = (lit< tt, (lit< tt, tt))
 
-  pub no-ends : hasInverse (levelOf level .r) (h0Of (levelOf level) seed) ≡ false
-      → both-ends-says level seed m roomSent roomOpened ≡ gives 5 (replicate roomSent 0 ∷ replicate roomOpened 0 ∷ [])
+  pub no-ends : {number : ℕ} → number ≡ firstOf (work-reasons (levelOf level) seed) → (number ≡ 0 → ⊥)
+      → both-ends-says level seed m roomSent roomOpened ≡ gives number (replicate roomSent 0 ∷ replicate roomOpened 0 ∷ [])
   unfolding both-ends-says
-  no-ends missing =
-      let five = last-applies _ (record { applies = _; number = 5 }) numbered none (ap not missing) in refused _ _ (sym five) (λ e. omega arith)
+  no-ends first some = refused _ _ (first ∙ sym (first-after _ _ numbered none)) some
 
-  pub ends : hasInverse (levelOf level .r) (h0Of (levelOf level) seed) ≡ true →
+  pub ends : firstOf (work-reasons (levelOf level) seed) ≡ 0 →
       let c = sentTo (levelOf level) seed m in
       both-ends-says level seed m roomSent roomOpened ≡ gives 0 (hashK m c ∷ opened bgf (levelOf level) (privateOf (levelOf level) seed) c ∷ [])
   unfolding both-ends-says
-  ends there = done _ _ (last-clear _ (record { applies = _; number = 5 }) numbered none (ap not there))
+  ends clear = done _ _ (first-after _ _ numbered none ∙ clear)
 
--- key making answers 5 exactly if h0 has no inverse, and else 0
+-- once it is judged, key making answers with the number that shows in the work
 module _ (level : ℕ) (seed public private : List ℕ) (made : ℕ) (judged : MakingClear level seed (length public) (length private))
     (says : MakeKeyPromise level seed (length public) (length private) made public private) where
-  none : firstOf (making-reasons level seed (length public) (length private)) ≡ 0
-  none = making-none judged
-
-  pub made-or-not :
-      let there = hasInverse (levelOf level .r) (h0Of (levelOf level) seed) in
-      ((there ≡ true) × (made ≡ 0)) ⊎ ((there ≡ false) × (made ≡ 5))
-  unfolding make-key-says
-  made-or-not = go (hasInverse (levelOf level .r) (h0Of (levelOf level) seed)) refl
-    where
-      go : (t : Bool) → hasInverse (levelOf level .r) (h0Of (levelOf level) seed) ≡ t → ((t ≡ true) × (made ≡ 0)) ⊎ ((t ≡ false) × (made ≡ 5))
-      go true e =
-          let clear = last-clear _ (record { applies = _; number = 5 }) (making-numbered level seed (length public) (length private)) none (ap not e) in
-          inl (refl, one-outcome says (sym (done _ _ clear)) .0)
-      go false e =
-          let five = last-applies _ (record { applies = _; number = 5 }) (making-numbered level seed (length public) (length private)) none (ap not e) in
-          inr (refl, one-outcome says (sym (refused _ _ (sym five) (λ q. omega arith))) .0)
-
-pub unmade : {t : Bool} {number : ℕ} → ((t ≡ true) × (number ≡ 0)) ⊎ ((t ≡ false) × (number ≡ 5)) → (number ≡ 0 → ⊥) → (t ≡ false) × (number ≡ 5)
-unmade (inl there) refused = absurd (refused (there .1))
-unmade (inr none) refused = none
-
-pub made : {t : Bool} {number : ℕ} → ((t ≡ true) × (number ≡ 0)) ⊎ ((t ≡ false) × (number ≡ 5)) → number ≡ 0 → t ≡ true
-made (inl there) done = there .0
-made (inr none) done = absurd (omega (arith, none .1, done))
+  pub made-number : made ≡ firstOf (work-reasons (levelOf level) seed)
+  unfolding make-key-says settle
+  made-number =
+      one-outcome says refl .0
+      ∙ first-after _ _ (making-numbered level seed (length public) (length private)) (making-none judged)
 
 module _ (level : ℕ) (seed m public private : List ℕ) (pair : FromKeyMaking level seed public private) (message : Bytes messageBytes m) where
   public-is : bits 8 public ≡ publicOf (levelOf level) seed

@@ -8,12 +8,12 @@ use Rattle.hashing.specs.Answers.{Reason, Outcome, differs, settle}
 use Rattle.hashing.specs.Answers.Outcome.{gives}
 use Rattle.ring.specs.Bytes.{bytesOf}
 use Rattle.ring.specs.Levels.{Level, known, levelOf, messageBytes, seedBytes}
-use Rattle.ring.specs.Polynomials.{hasInverse}
 use Rattle.exchange.specs.decoder.Decoder.{Decoder, bgf, failed}
 use Rattle.exchange.specs.decoder.PrivateKey.{secret}
 use Rattle.exchange.specs.Fits.{Fits}
 use Rattle.exchange.specs.Opening.{syndromeOf, opened}
-use Rattle.exchange.specs.Scheme.{keyDigest, boundH, hashK, h0Of, sigmaOf, publicOf, privateOf, wrapped}
+use Rattle.exchange.specs.Promises.{work-reasons}
+use Rattle.exchange.specs.Scheme.{keyDigest, boundH, hashK, sigmaOf, publicOf, privateOf, wrapped}
 
 -- D of the public key
 abbrev pub digestOf : Level → List ℕ → List ℕ
@@ -23,7 +23,7 @@ digestOf l seed = keyDigest (bytesOf (l .r) (publicOf l seed))
 unfoldable pub sentTo : Level → List ℕ → List ℕ → List ℕ
 sentTo l seed m = wrapped l (digestOf l seed) (publicOf l seed) m
 
--- 1, 2, and 5 as in key making; else the key of each end
+-- 1, 2, and 10 or 5 as in key making; else the key of each end
 unfoldable pub both-ends-reasons : ℕ → List ℕ → List ℕ → ℕ → ℕ → List Reason
 both-ends-reasons level seed m roomSent roomOpened =
     record { applies = not (known level); number = 1 }
@@ -37,8 +37,7 @@ unfoldable pub both-ends-says : ℕ → List ℕ → List ℕ → ℕ → ℕ �
 both-ends-says level seed m roomSent roomOpened =
     let l = levelOf level in
     let c = sentTo l seed m in
-    settle
-    (both-ends-reasons level seed m roomSent roomOpened ++ (record { applies = not (hasInverse (l .r) (h0Of l seed)); number = 5 } ∷ []))
+    settle (both-ends-reasons level seed m roomSent roomOpened ++ work-reasons l seed)
     (record { room = roomSent; value = hashK m c } ∷ record { room = roomOpened; value = opened bgf l (privateOf l seed) c } ∷ [])
 
 abbrev pub BothEndsPromise : ℕ → List ℕ → List ℕ → ℕ → ℕ → ℕ → List ℕ → List ℕ → Type 0

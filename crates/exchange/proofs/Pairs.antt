@@ -24,30 +24,33 @@ use Rattle.exchange.specs.decoder.Decoder.{Pair, nothing, bgf}
 use Rattle.exchange.specs.decoder.PrivateKey.{secret, goodKey, tail, sigma, digestIn}
 use Rattle.exchange.specs.Fits.{FromKeyMaking, WellFormed, Fitting, Demand3}
 use Rattle.exchange.specs.Opening.{sameError, opened}
-use Rattle.exchange.specs.Promises.{making-reasons, make-key-says, wrap-says, open-says}
-use Rattle.exchange.specs.Scheme.{hashH, hashK, h0Of, h1Of, sigmaOf, publicOf, keyDigest, privateOf, wrapped}
+use Rattle.exchange.specs.Promises.{making-reasons, work-reasons, make-key-says, wrap-says, open-says}
+use Rattle.exchange.specs.Scheme.{hashH, hashK, h0Of, h1Of, keyRanOut, sigmaOf, publicOf, keyDigest, privateOf, wrapped}
 use Rattle.exchange.proofs.Demand.{Matched, at-most-one, no-two, one-or-none, fitting-opens, none-opens}
 use Rattle.exchange.proofs.Errors.{error-weight}
 use Rattle.exchange.proofs.Judged.{MakingClear, making-clear, making-numbered, wrapping-none, opening-none}
 use Rattle.exchange.proofs.Making.{positions0-back, positions1-back, tail-back, secret-back, rising-good}
 use Rattle.exchange.proofs.decoder.Laws.{bgf-in}
-use Rattle.exchange.proofs.keys.Laws.{h0-half, h1-half}
+use Rattle.exchange.proofs.keys.Laws.{Half, h0-half, h1-half}
 
 -- what an answer 0 of key making says
 pub record Made (level : ℕ) (seed public private : List ℕ) : Type 0 where
   pub judged : MakingClear level seed (length public) (length private)
+  pub enough : keyRanOut (levelOf level) seed ≡ false
   pub invertible : hasInverse (levelOf level .r) (h0Of (levelOf level) seed) ≡ true
   pub publicIs : public ≡ bytesOf (levelOf level .r) (publicOf (levelOf level) seed)
   pub privateIs : private ≡ privateOf (levelOf level) seed
 
 pub made-of : (level : ℕ) (seed public private : List ℕ) → FromKeyMaking level seed public private → Made level seed public private
-unfolding make-key-says
+unfolding make-key-says work-reasons
 made-of level seed public private says =
     let done = settled-two _ _ _ public private says in
     let none = all-clear (making-reasons level seed (length public) (length private)) _ (making-numbered level seed (length public) (length private)) (done .0) in
+    let drawn = clear _ _ (lit< tt) (none .1) in
     record {
       judged = making-clear (none .0);
-      invertible = not-false (hasInverse (levelOf level .r) (h0Of (levelOf level) seed)) (clear _ _ (lit< tt) (none .1) .0);
+      enough = drawn .0;
+      invertible = not-false (hasInverse (levelOf level .r) (h0Of (levelOf level) seed)) (clear _ _ (lit< tt) (drawn .1) .0);
       publicIs = done .1;
       privateIs = done .2;
     }
@@ -56,6 +59,12 @@ made-of level seed public private says =
 module _ (level : ℕ) (seed public private : List ℕ) (made : Made level seed public private) where
   l : Level
   l = levelOf level
+
+  first : Half (levelOf level .r) (levelOf level .d) (h0Of (levelOf level) seed)
+  first = h0-half (levelOf level) seed (made .enough)
+
+  second : Half (levelOf level .r) (levelOf level .d) (h1Of (levelOf level) seed)
+  second = h1-half (levelOf level) seed (made .enough)
 
   -- sigma, and D of this public key
   last : List ℕ
@@ -68,11 +77,11 @@ module _ (level : ℕ) (seed public private : List ℕ) (made : Made level seed 
   tail-is : tail (levelOf level) private ≡ last
   unfolding last
   tail-is =
-      rw (made .privateIs) (tail-back (levelOf level) (h0Of (levelOf level) seed) (h1Of (levelOf level) seed) last (h0-half level seed .weighs) (h1-half level seed .weighs))
+      rw (made .privateIs) (tail-back (levelOf level) (h0Of (levelOf level) seed) (h1Of (levelOf level) seed) last (first .weighs) (second .weighs))
 
   halves : secret l private ≡ record { half0 = h0Of l seed; half1 = h1Of l seed }
   unfolding l last
-  halves = rw (made .privateIs) (secret-back l (h0Of l seed) (h1Of l seed) last (h0-half level seed .weighs) (h1-half level seed .weighs) (h0-half level seed .inside) (h1-half level seed .inside))
+  halves = rw (made .privateIs) (secret-back l (h0Of l seed) (h1Of l seed) last (first .weighs) (second .weighs) (first .inside) (second .inside))
 
   pub matched : Matched (levelOf level .r) (bits 8 public) (secret (levelOf level) private)
   unfolding l publicOf
@@ -87,8 +96,8 @@ module _ (level : ℕ) (seed public private : List ℕ) (made : Made level seed 
   pub good : goodKey (levelOf level) private ≡ true
   unfolding l last goodKey
   good =
-      let back0 = positions0-back l (h0Of l seed) (h1Of l seed) last (h0-half level seed .weighs) (h1-half level seed .weighs) in
-      let back1 = positions1-back l (h0Of l seed) (h1Of l seed) last (h0-half level seed .weighs) (h1-half level seed .weighs) in
+      let back0 = positions0-back l (h0Of l seed) (h1Of l seed) last (first .weighs) (second .weighs) in
+      let back1 = positions1-back l (h0Of l seed) (h1Of l seed) last (first .weighs) (second .weighs) in
       rw (made .privateIs, back0, back1, rising-good (l .r) (h0Of l seed), rising-good (l .r) (h1Of l seed))
 
   pub sigma-is : sigma (levelOf level) private ≡ sigmaOf seed

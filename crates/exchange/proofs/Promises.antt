@@ -3,9 +3,10 @@ use mathlib.Core.Path.{_≡_, sym, _∙_}
 use mathlib.Core.List.{List}
 use Prim.Native.Nat.{ℕ}
 use Rattle.hashing.proofs.Answers.{one-output, two-outputs, three-outputs, one-number, two-numbers}
+use Rattle.exchange.specs.declared.keys.KeyCounts.{KeyCounts}
 use Rattle.exchange.specs.declared.record.Reading.{Reading}
 use Rattle.exchange.specs.Doors.{MakeKeyDoorPromise}
-use Rattle.exchange.specs.Promises.{ErrorOfPromise, ErrorCountPromise, MakeKeyPromise, KeyCountPromise, FairPromise, FairCountPromise, WrapPromise, DecodePromise, OpenPromise}
+use Rattle.exchange.specs.Promises.{ErrorOfPromise, ErrorCountPromise, MakeKeyPromise, countsOf, KeyCountPromise, FairPromise, FairCountPromise, WrapPromise, DecodePromise, OpenPromise}
 use Rattle.exchange.specs.Records.{RecordPromise}
 use Rattle.exchange.proofs.record.Laws.{outcomeOf-one}
 
@@ -23,9 +24,11 @@ pub make-key-just-one : (level : ℕ) (seed : List ℕ) (roomPublic roomPrivate 
     → (r ≡ r′) × (public ≡ public′) × (private ≡ private′)
 make-key-just-one level seed roomPublic roomPrivate = two-outputs
 
-pub key-count-just-one : (level : ℕ) (seed : List ℕ) (roomPublic roomPrivate : ℕ) {n n′ k k′ : ℕ}
-    → KeyCountPromise level seed roomPublic roomPrivate n k → KeyCountPromise level seed roomPublic roomPrivate n′ k′ → (n ≡ n′) × (k ≡ k′)
-key-count-just-one level seed roomPublic roomPrivate = two-numbers
+pub key-count-just-one : (level : ℕ) (seed : List ℕ) (roomPublic roomPrivate : ℕ) (n n′ : KeyCounts)
+    → KeyCountPromise level seed roomPublic roomPrivate n → KeyCountPromise level seed roomPublic roomPrivate n′
+    → (n .used0 ≡ n′ .used0) × (n .passed0 ≡ n′ .passed0) × (n .used1 ≡ n′ .used1) × (n .passed1 ≡ n′ .passed1)
+key-count-just-one level seed roomPublic roomPrivate n n′ p q =
+    let same : countsOf n ≡ countsOf n′ = p ∙ sym q in (cc, cc, cc, cc)
 
 pub fair-just-one : (level : ℕ) (words : List ℕ) (room : ℕ) {r r′ : ℕ} {out out′ : List ℕ}
     → FairPromise level words room r out → FairPromise level words room r′ out′ → (r ≡ r′) × (out ≡ out′)

@@ -8,18 +8,23 @@ use Rattle.hashing.specs.Answers.{Reason, Outcome, differs, settle}
 use Rattle.hashing.specs.Answers.Outcome.{gives}
 use Rattle.ring.specs.Bytes.{bytesOf}
 use Rattle.ring.specs.Levels.{known, levelOf, seedBytes, polyBytes, privateBytes}
-use Rattle.ring.specs.Polynomials.{hasInverse}
-use Rattle.exchange.specs.Scheme.{h0Of, publicOf, privateOf, h0Replaced, h1Replaced}
+use Rattle.exchange.specs.Promises.{work-reasons}
+use Rattle.exchange.specs.Scheme.{publicOf, privateOf, keyCounts}
 
 -- a number in 4 bytes, little-endian
 unfoldable pub fourBytes : ℕ → List ℕ
 fourBytes n = n % 256 ∷ n / 256 % 256 ∷ n / 65536 % 256 ∷ n / 16777216 % 256 ∷ []
 
--- a report has two numbers
-abbrev pub reportBytes : ℕ
-reportBytes = 8
+-- a report: numbers, one after the other
+unfoldable pub reportOf : List ℕ → List ℕ
+reportOf [] = []
+reportOf (n ∷ rest) = fourBytes n ++ reportOf rest
 
--- key making: a seed, public and private key, and the report of how many positions of each half were replaced
+-- key making reports four
+abbrev pub reportBytes : ℕ
+reportBytes = 16
+
+-- key making: a seed, public and private key, and the report of the words that each half used and passed over
 unfoldable pub making-door-reasons : ℕ → List ℕ → ℕ → ℕ → ℕ → List Reason
 making-door-reasons level seed roomPublic roomPrivate roomReport =
     let l = levelOf level in
@@ -33,12 +38,10 @@ making-door-reasons level seed roomPublic roomPrivate roomReport =
 unfoldable pub make-key-door-says : ℕ → List ℕ → ℕ → ℕ → ℕ → Outcome
 make-key-door-says level seed roomPublic roomPrivate roomReport =
     let l = levelOf level in
-    settle
-    (making-door-reasons level seed roomPublic roomPrivate roomReport
-    ++ (record { applies = not (hasInverse (l .r) (h0Of l seed)); number = 5 } ∷ []))
+    settle (making-door-reasons level seed roomPublic roomPrivate roomReport ++ work-reasons l seed)
     (record { room = roomPublic; value = bytesOf (l .r) (publicOf l seed) }
     ∷ record { room = roomPrivate; value = privateOf l seed }
-    ∷ record { room = roomReport; value = fourBytes (h0Replaced l seed) ++ fourBytes (h1Replaced l seed) }
+    ∷ record { room = roomReport; value = reportOf (keyCounts l seed) }
     ∷ [])
 
 abbrev pub MakeKeyDoorPromise : ℕ → List ℕ → ℕ → ℕ → ℕ → ℕ → List ℕ → List ℕ → List ℕ → Type 0

@@ -13,11 +13,12 @@ use Rattle.hashing.specs.Lists.{bits}
 use Rattle.ring.specs.Bytes.{bytesOf, padSet}
 use Rattle.ring.specs.Levels.{Level, known, levelOf, messageBytes, seedBytes, polyBytes, ciphertextBytes, privateBytes}
 use Rattle.ring.specs.Polynomials.{hasInverse, support}
+use Rattle.exchange.specs.declared.keys.KeyCounts.{KeyCounts}
 use Rattle.exchange.specs.decoder.Decoder.{bgf, failed}
 use Rattle.exchange.specs.decoder.PrivateKey.{secret, goodKey}
 use Rattle.exchange.specs.Fair.{mostWords, ranOut, drawnFor}
 use Rattle.exchange.specs.Opening.{opened}
-use Rattle.exchange.specs.Scheme.{hashH, hashK, h0Of, publicOf, privateOf, h0Replaced, h1Replaced, errorReplaced, keyDigest, wrapped}
+use Rattle.exchange.specs.Scheme.{hashH, hashK, h0Of, publicOf, privateOf, keyRanOut, keyCounts, errorReplaced, keyDigest, wrapped}
 
 -- H: a message, e0 and e1
 unfoldable pub error-reasons : ℕ → List ℕ → ℕ → ℕ → List Reason
@@ -50,11 +51,15 @@ making-reasons level seed roomPublic roomPrivate =
     ∷ record { applies = differs (length seed) seedBytes || differs roomPublic (polyBytes l) || differs roomPrivate (privateBytes l); number = 2 }
     ∷ []
 
+-- what shows only in the work: 10 comes "after 4 and before 5 in key making", though it is the larger number
+unfoldable pub work-reasons : Level → List ℕ → List Reason
+work-reasons l seed =
+    record { applies = keyRanOut l seed; number = 10 } ∷ record { applies = not (hasInverse (l .r) (h0Of l seed)); number = 5 } ∷ []
+
 unfoldable pub make-key-says : ℕ → List ℕ → ℕ → ℕ → Outcome
 make-key-says level seed roomPublic roomPrivate =
     let l = levelOf level in
-    settle
-    (making-reasons level seed roomPublic roomPrivate ++ (record { applies = not (hasInverse (l .r) (h0Of l seed)); number = 5 } ∷ []))
+    settle (making-reasons level seed roomPublic roomPrivate ++ work-reasons l seed)
     (record { room = roomPublic; value = bytesOf (l .r) (publicOf l seed) }
     ∷ record { room = roomPrivate; value = privateOf l seed }
     ∷ [])
@@ -63,10 +68,13 @@ abbrev pub MakeKeyPromise : ℕ → List ℕ → ℕ → ℕ → ℕ → List �
 MakeKeyPromise level seed roomPublic roomPrivate r public private =
     gives r (public ∷ private ∷ []) ≡ make-key-says level seed roomPublic roomPrivate
 
-abbrev pub KeyCountPromise : ℕ → List ℕ → ℕ → ℕ → ℕ → ℕ → Type 0
-KeyCountPromise level seed roomPublic roomPrivate replaced0 replaced1 =
-    replaced0 ∷ replaced1 ∷ []
-    ≡ reported (make-key-says level seed roomPublic roomPrivate) (h0Replaced (levelOf level) seed ∷ h1Replaced (levelOf level) seed ∷ [])
+-- the four numbers of an answer
+abbrev pub countsOf : KeyCounts → List ℕ
+countsOf counts = counts .used0 ∷ counts .passed0 ∷ counts .used1 ∷ counts .passed1 ∷ []
+
+abbrev pub KeyCountPromise : ℕ → List ℕ → ℕ → ℕ → KeyCounts → Type 0
+KeyCountPromise level seed roomPublic roomPrivate counts =
+    countsOf counts ≡ reported (make-key-says level seed roomPublic roomPrivate) (keyCounts (levelOf level) seed)
 
 -- one polynomial of key making, from lent words: 10, "words ran out before d positions were listed"
 unfoldable pub fair-reasons : ℕ → ℕ → ℕ → List Reason

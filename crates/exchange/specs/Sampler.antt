@@ -31,9 +31,6 @@ replacedBelow len words (suc i) list =
 unfoldable pub replaced : ℕ → ℕ → List ℕ → ℕ
 replaced len wt words = replacedBelow len words wt []
 
--- key making's sampler and H's go by names of their own: a change of one leaves the other
-unfoldable pub sampleKey : ℕ → ℕ → List ℕ → List ℕ
-sampleKey len wt words = sample len wt words
-
+-- H's sampler goes by a name of its own; key making draws by `Fair`
 unfoldable pub sampleError : ℕ → ℕ → List ℕ → List ℕ
 sampleError len wt words = sample len wt words

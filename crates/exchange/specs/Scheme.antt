@@ -1,5 +1,5 @@
 -- "Rules of the scheme": keys, the hash functions H, L and K, wrapping. Assumes nothing.
-use mathlib.Core.Bool.{_&&_}
+use mathlib.Core.Bool.{Bool, _&&_, _||_}
 use mathlib.Core.List.{List, [], _∷_, _++_}
 use Prim.Native.Nat.{ℕ, _+_, _*_, _/_, _%_}
 use lib.Bits.{bitXor}
@@ -11,24 +11,36 @@ use Rattle.ring.specs.Bytes.{bytesOf, numbers}
 use Rattle.ring.specs.Levels.{Level, messageBytes}
 use Rattle.ring.specs.Polynomials.{Poly, rising, add, mul, inverseOf, listed, support}
 use Rattle.exchange.specs.decoder.Decoder.{Pair}
-use Rattle.exchange.specs.Sampler.{sampleKey, sampleError, replaced}
+use Rattle.exchange.specs.Fair.{mostWords, Drawn, ranOut, drawnFor}
+use Rattle.exchange.specs.Sampler.{sampleError, replaced}
 
--- "Key making": the stream of the seed's first 32 bytes, "4d bytes for h0, then the next 4d for h1, each sampled with len r and weight d"
-unfoldable pub keyStream : Level → List ℕ → List ℕ
-keyStream l seed = shake256 (take messageBytes seed) (8 * l .d)
+-- "Key making": the stream of the seed's first 32 bytes, as words, by CR 5 as many as both polynomials may use
+abbrev pub keyWords : ℕ
+keyWords = mostWords + mostWords
+
+unfoldable pub keyStream : List ℕ → List ℕ
+keyStream seed = numbers 4 keyWords (shake256 (take messageBytes seed) (4 * keyWords))
+
+-- "Each polynomial may use 512 words"; "h1 goes on at the word after h0's last"
+unfoldable pub h0Drawn : Level → List ℕ → Drawn
+h0Drawn l seed = drawnFor l (take mostWords (keyStream seed))
+
+unfoldable pub h1Drawn : Level → List ℕ → Drawn
+h1Drawn l seed = drawnFor l (take mostWords (drop (h0Drawn l seed .used) (keyStream seed)))
 
 unfoldable pub h0Of : Level → List ℕ → Poly
-h0Of l seed = support (sampleKey (l .r) (l .d) (numbers 4 (l .d) (keyStream l seed)))
+h0Of l seed = support (h0Drawn l seed .positions)
 
 unfoldable pub h1Of : Level → List ℕ → Poly
-h1Of l seed = support (sampleKey (l .r) (l .d) (numbers 4 (l .d) (drop (4 * l .d) (keyStream l seed))))
+h1Of l seed = support (h1Drawn l seed .positions)
 
--- CR 2: how many positions of each half were replaced
-unfoldable pub h0Replaced : Level → List ℕ → ℕ
-h0Replaced l seed = replaced (l .r) (l .d) (numbers 4 (l .d) (keyStream l seed))
+-- "words ran out before d positions were listed", of h0 or of h1
+unfoldable pub keyRanOut : Level → List ℕ → Bool
+keyRanOut l seed = ranOut (l .d) (h0Drawn l seed) || ranOut (l .d) (h1Drawn l seed)
 
-unfoldable pub h1Replaced : Level → List ℕ → ℕ
-h1Replaced l seed = replaced (l .r) (l .d) (numbers 4 (l .d) (drop (4 * l .d) (keyStream l seed)))
+-- "for each, the words used (all that were drawn) and those of them passed over"
+abbrev pub keyCounts : Level → List ℕ → List ℕ
+keyCounts l seed = h0Drawn l seed .used ∷ h0Drawn l seed .passed ∷ h1Drawn l seed .used ∷ h1Drawn l seed .passed ∷ []
 
 -- "The seed's last 32 bytes are sigma"
 unfoldable pub sigmaOf : List ℕ → List ℕ

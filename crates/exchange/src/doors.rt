@@ -2,12 +2,13 @@
 // and that of key making has a report besides.
 use crate::bytes;
 use crate::judge;
+use crate::keys::KeyCounts;
 use hashing::refuse;
 ghost use mathlib.Core.Path.{_≡_};
 ghost use mathlib.Core.List.{_++_};
 ghost use lib.ListN.{length};
-ghost use Rattle.exchange.specs.Promises.{WrapPromise, OpenPromise};
-ghost use Rattle.exchange.specs.Doors.{fourBytes, reportBytes, MakeKeyDoorPromise};
+ghost use Rattle.exchange.specs.Promises.{countsOf, WrapPromise, OpenPromise};
+ghost use Rattle.exchange.specs.Doors.{fourBytes, reportOf, reportBytes, MakeKeyDoorPromise};
 
 fn four_bytes(n: u32) -> [u8; 4]
     ensures { λ b. ⌜ b ≡ fourBytes n ⌝ }
@@ -20,14 +21,22 @@ fn four_bytes(n: u32) -> [u8; 4]
     ]
 }
 
-fn write_report(number0: u32, number1: u32, report: &mut [u8])
-    requires { ⌜ length (now report) ≡ reportBytes ⌝ }
-    ensures { λ _. ⌜ now (report .exit) ≡ fourBytes number0 ++ fourBytes number1 ⌝ }
+fn write_two(number0: u32, number1: u32, out: &mut [u8])
+    requires { ⌜ length (now out) ≡ 8 ⌝ }
+    ensures { λ _. ⌜ now (out .exit) ≡ fourBytes number0 ++ fourBytes number1 ⌝ }
 {
     let b0 = four_bytes(number0);
     let b1 = four_bytes(number1);
-    bytes::copy(&b0, &mut report[..4]);
-    bytes::copy(&b1, &mut report[4..]);
+    bytes::copy(&b0, &mut out[..4]);
+    bytes::copy(&b1, &mut out[4..]);
+}
+
+fn write_report(counts: KeyCounts, report: &mut [u8])
+    requires { ⌜ length (now report) ≡ reportBytes ⌝ }
+    ensures { λ _. ⌜ now (report .exit) ≡ reportOf (countsOf counts) ⌝ }
+{
+    write_two(counts.used0, counts.passed0, &mut report[..8]);
+    write_two(counts.used1, counts.passed1, &mut report[8..]);
 }
 
 // A refusal of the entry reports zeros by itself.
@@ -53,7 +62,8 @@ pub extern "C" fn bike_make_key(
         return refuse::three(answer, public_key, private_key, report);
     }
     let made = crate::make_key(level, seed, public_key, private_key);
-    write_report(made.replaced0, made.replaced1, report);
+    let counts = made.counts;
+    write_report(counts, report);
     made.answer
 }
 

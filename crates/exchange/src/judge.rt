@@ -13,8 +13,8 @@ ghost use Rattle.ring.specs.Levels.{levelOf, polyBytes, privateBytes};
 ghost use Rattle.exchange.specs.Doors.{making-door-reasons};
 ghost use Rattle.exchange.specs.Promises.{error-reasons, making-reasons, fair-reasons, wrapping-reasons, content-reasons, decoding-reasons, opening-reasons};
 
-// A report's two numbers have 4 bytes each.
-const REPORT: usize = 8;
+// A report's four numbers have 4 bytes each.
+const REPORT: usize = 16;
 
 pub fn error(level: u32, message: &[u8], room0: usize, room1: usize) -> u32
     ensures { λ r. ⌜ r ≡ firstOf (error-reasons level (now (message .entry)) room0 room1) ⌝ }

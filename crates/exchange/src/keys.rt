@@ -1,98 +1,93 @@
 // Key making: two sparse polynomials from a seed, the quotient that is public, and the positions that are kept.
 use crate::bytes;
 use crate::digest::key_digest;
-use crate::error;
 use crate::fair;
-use crate::sampler;
+use crate::fair::MOST_WORDS;
 use hashing::sponge;
 use ring::WORDS;
-use ring::frame::zeros;
 use ring::invert;
+use ring::little_endian::four;
 use ring::multiply;
 use ring::positions;
 use ring::size;
-use ring::size::MOST_D;
 use ring::size::TAIL;
 use ring::words;
 ghost use mathlib.Core.Path.{_≡_};
-ghost use mathlib.Core.Bool.{true};
+ghost use mathlib.Core.Bool.{true, false};
 ghost use mathlib.Core.List.{_++_};
 ghost use Prim.Native.Nat.{_+_, _*_, _≤_};
-ghost use lib.ListN.{length, take};
+ghost use lib.ListN.{length, take, replicate};
 ghost use Rattle.hashing.specs.Answers.{firstOf};
 ghost use Rattle.hashing.specs.Lists.{bits};
-ghost use Rattle.ring.specs.inner.Sizes.{keyStreamBytes};
+ghost use Rattle.hashing.specs.Sponge.{shake256};
 ghost use Rattle.ring.specs.Levels.{levelOf, messageBytes, tailBytes};
 ghost use Rattle.ring.specs.Polynomials;
-ghost use Rattle.ring.specs.Polynomials.{InRing, weight, hasInverse, support};
-ghost use Rattle.exchange.specs.Promises.{making-reasons};
+ghost use Rattle.ring.specs.Polynomials.{InRing, weight, hasInverse};
+ghost use Rattle.exchange.specs.Promises.{making-reasons, work-reasons, countsOf};
 ghost use Rattle.ring.specs.Bytes.{bytesOf, numbers};
-ghost use Rattle.exchange.specs.Sampler.{sampleKey, replaced};
-ghost use Rattle.exchange.specs.Scheme.{keyStream, h0Of, h1Of, publicOf, privateOf, h0Replaced, h1Replaced, keyDigest, twoBytes, privateKey};
+ghost use Rattle.exchange.specs.Scheme.{keyWords, h0Of, h1Of, publicOf, privateOf, keyRanOut, keyCounts, keyDigest, twoBytes, privateKey};
 
-const STREAM: usize = 8 * MOST_D;
+// The words of both halves, and their bytes.
+const KEY_WORDS: usize = MOST_WORDS + MOST_WORDS;
 
-// Room for the words of both halves.
-fn no_words() -> [u8; STREAM]
-    ensures { λ r. ⌜ keyStreamBytes ≡ length r ⌝ }
+const STREAM: usize = 4 * KEY_WORDS;
+
+fn no_bytes() -> [u8; STREAM]
+    ensures { λ r. ⌜ 4 * keyWords ≡ length r ⌝ }
 {
     [0; STREAM]
 }
 
-// The stream of the seed's first half: 8d bytes.
-fn stream(level: u32, seed: &[u8]) -> [u8; STREAM]
-    requires { ⌜ 32 ≤ length (now seed) ⌝ }
-    ensures { λ r. ⌜ take (8 * levelOf level .d) r ≡ keyStream (levelOf level) (now (seed .entry)) ⌝ }
+fn no_words() -> [u32; KEY_WORDS]
+    ensures { λ r. ⌜ keyWords ≡ length r ⌝ }
 {
-    let n = 8 * size::key_weight(level);
-    let mut words = no_words();
+    [0; KEY_WORDS]
+}
+
+// The stream of the seed's first half.
+fn stream(seed: &[u8]) -> [u8; STREAM]
+    requires { ⌜ 32 ≤ length (now seed) ⌝ }
+    ensures { λ r. ⌜ r ≡ shake256 (take messageBytes (now (seed .entry))) (4 * keyWords) ⌝ }
+{
+    let mut bytes = no_bytes();
     sponge::digest(
         sponge::SHAKE256_RATE,
         sponge::SHAKE256_SUFFIX,
         &seed[..32],
-        &mut words[..n],
+        &mut bytes,
     );
+    bytes
+}
+
+fn words_of(bytes: &[u8]) -> [u32; KEY_WORDS]
+    requires { ⌜ 4 * keyWords ≤ length (now bytes) ⌝ }
+    ensures { λ r. ⌜ r ≡ numbers 4 keyWords (now (bytes .entry)) ⌝ }
+{
+    let mut words = no_words();
+    let mut i = 0;
+    while i < KEY_WORDS {
+        words[i] = four(bytes, 4 * i);
+        i += 1;
+    }
     words
 }
 
-struct KeyPositions {
-    list: [u32; MOST_D],
-    replaced: u32,
+// The words that h0 and h1 used, and those of them that each passed over.
+pub struct KeyCounts {
+    pub used0: u32,
+    pub passed0: u32,
+    pub used1: u32,
+    pub passed1: u32,
 }
 
-// The d positions of one half, at the front of the list, and how many of them were replaced.
-fn sampled(level: u32, stream: &[u8]) -> KeyPositions
-    requires { ⌜ 4 * levelOf level .d ≤ length (now stream) ⌝ }
-    ensures { λ p. ⌜ (take (levelOf level .d) (p .list)
-        ≡ sampleKey (levelOf level .r) (levelOf level .d) (numbers 4 (levelOf level .d) (now (stream .entry))))
-        × (p .replaced ≡ replaced (levelOf level .r) (levelOf level .d) (numbers 4 (levelOf level .d) (now (stream .entry)))) ⌝ }
+pub fn no_counts() -> KeyCounts
+    ensures { λ n. ⌜ countsOf n ≡ replicate 4 0 ⌝ }
 {
-    let d = size::key_weight(level);
-    let mut list = fair::no_positions();
-    let replaced = sampler::sample(size::block(level) as u32, stream, &mut list[..d]);
-    KeyPositions { list, replaced }
-}
-
-struct HalfWords {
-    words: [u64; WORDS],
-    replaced: u32,
-}
-
-// One half in words, from the front of a stream.
-fn half(level: u32, stream: &[u8]) -> HalfWords
-    requires { ⌜ 4 * levelOf level .d ≤ length (now stream) ⌝ }
-    ensures { λ h. ⌜ (bits 64 (h .words)
-        ≡ support (sampleKey (levelOf level .r) (levelOf level .d) (numbers 4 (levelOf level .d) (now (stream .entry)))))
-        × (h .replaced ≡ replaced (levelOf level .r) (levelOf level .d) (numbers 4 (levelOf level .d) (now (stream .entry)))) ⌝ }
-{
-    let d = size::key_weight(level);
-    let sampled = sampled(level, stream);
-    let list = sampled.list;
-    let mut words = zeros();
-    error::place(&list[..d], &mut words);
-    HalfWords {
-        words,
-        replaced: sampled.replaced,
+    KeyCounts {
+        used0: 0,
+        passed0: 0,
+        used1: 0,
+        passed1: 0,
     }
 }
 
@@ -104,32 +99,36 @@ pub struct KeyWords {
 struct KeyHalves {
     h0: [u64; WORDS],
     h1: [u64; WORDS],
-    replaced0: u32,
-    replaced1: u32,
+    ran_out: bool,
+    counts: KeyCounts,
 }
 
-// h0 from the first 4d bytes of the stream, h1 from the next 4d.
+// h0 from the first 512 words at most, h1 from the next 512 after those that h0 used.
 fn both_halves(level: u32, seed: &[u8]) -> KeyHalves
     requires { ⌜ 32 ≤ length (now seed) ⌝ }
     ensures { λ h. ⌜ (bits 64 (h .h0) ≡ h0Of (levelOf level) (now (seed .entry)))
         × (bits 64 (h .h1) ≡ h1Of (levelOf level) (now (seed .entry)))
-        × (h .replaced0 ≡ h0Replaced (levelOf level) (now (seed .entry)))
-        × (h .replaced1 ≡ h1Replaced (levelOf level) (now (seed .entry))) ⌝ }
+        × (h .«ran_out» ≡ keyRanOut (levelOf level) (now (seed .entry)))
+        × (countsOf (h .counts) ≡ keyCounts (levelOf level) (now (seed .entry))) ⌝ }
 {
-    let n = 8 * size::key_weight(level);
-    let middle = n / 2;
-    let words = stream(level, seed);
-    let first = half(level, &words[..n]);
-    let second = half(level, &words[middle..n]);
+    let bytes = stream(seed);
+    let words = words_of(&bytes);
+    let first = fair::polynomial(level, &words[..MOST_WORDS]);
+    let at = first.used as usize;
+    let end = at + MOST_WORDS;
+    let second = fair::polynomial(level, &words[at..end]);
     let h0 = first.words;
     let h1 = second.words;
-    let replaced0 = first.replaced;
-    let replaced1 = second.replaced;
     KeyHalves {
         h0,
         h1,
-        replaced0,
-        replaced1,
+        ran_out: first.ran_out | second.ran_out,
+        counts: KeyCounts {
+            used0: first.used,
+            passed0: first.passed,
+            used1: second.used,
+            passed1: second.passed,
+        },
     }
 }
 
@@ -200,43 +199,58 @@ fn tail_of(sigma: &[u8], public_key: &[u8]) -> [u8; TAIL]
     tail
 }
 
-// Whether a key was made, and how many positions of h0 and of h1 were replaced.
-pub struct Made {
-    pub exists: bool,
-    pub replaced0: u32,
-    pub replaced1: u32,
-}
-
-// Key making, once it is judged: whether h0 has an inverse, and the keys if it has.
-pub fn write(level: u32, seed: &[u8], public_key: &mut [u8], private_key: &mut [u8]) -> Made
-    requires { ⌜ firstOf (making-reasons level (now seed) (length (now «public_key»)) (length (now «private_key»))) ≡ 0 ⌝ }
-    ensures { λ made. ⌜ (made .exists ≡ hasInverse (levelOf level .r) (h0Of (levelOf level) (now (seed .entry))))
-        × (made .exists ≡ true → (now («public_key» .exit) ≡ bytesOf (levelOf level .r) (publicOf (levelOf level) (now (seed .entry))))
-        × (now («private_key» .exit) ≡ privateOf (levelOf level) (now (seed .entry))))
-        × (made .replaced0 ≡ h0Replaced (levelOf level) (now (seed .entry)))
-        × (made .replaced1 ≡ h1Replaced (levelOf level) (now (seed .entry))) ⌝ }
+// The public key, if h0 has an inverse, and the private key; whether it has.
+fn write(
+    level: u32,
+    seed: &[u8],
+    h: KeyWords,
+    public_key: &mut [u8],
+    private_key: &mut [u8],
+) -> bool
+    requires { ⌜ firstOf (making-reasons level (now seed) (length (now «public_key»)) (length (now «private_key»))) ≡ 0 ⌝
+        ∗ ⌜ keyRanOut (levelOf level) (now seed) ≡ false ⌝
+        ∗ ⌜ (bits 64 (h .h0) ≡ h0Of (levelOf level) (now seed)) × (bits 64 (h .h1) ≡ h1Of (levelOf level) (now seed)) ⌝ }
+    ensures { λ exists. ⌜ (exists ≡ hasInverse (levelOf level .r) (h0Of (levelOf level) (now (seed .entry))))
+        × (exists ≡ true → (now («public_key» .exit) ≡ bytesOf (levelOf level .r) (publicOf (levelOf level) (now (seed .entry))))
+        × (now («private_key» .exit) ≡ privateOf (levelOf level) (now (seed .entry)))) ⌝ }
 {
     let r = size::block(level);
-    let h = both_halves(level, seed);
     let h0 = h.h0;
     let h1 = h.h1;
-    let replaced0 = h.replaced0;
-    let replaced1 = h.replaced1;
     let inverse = invert::invert(r, h0);
     if !inverse.exists {
-        return Made {
-            exists: false,
-            replaced0,
-            replaced1,
-        };
+        return false;
     }
     let value = inverse.value;
     words::store(multiply::multiply(r, h1, value), public_key);
     let tail = tail_of(&seed[32..], public_key);
     write_private(level, KeyWords { h0, h1 }, &tail, private_key);
-    Made {
-        exists: true,
-        replaced0,
-        replaced1,
+    true
+}
+
+// The number that shows only in the work, and what was drawn for it.
+pub struct Made {
+    pub number: u32,
+    pub counts: KeyCounts,
+}
+
+// Key making, once it is judged: the keys where the number is 0.
+pub fn make(level: u32, seed: &[u8], public_key: &mut [u8], private_key: &mut [u8]) -> Made
+    requires { ⌜ firstOf (making-reasons level (now seed) (length (now «public_key»)) (length (now «private_key»))) ≡ 0 ⌝ }
+    ensures { λ made. ⌜ (made .number ≡ firstOf (work-reasons (levelOf level) (now (seed .entry))))
+        × (made .number ≡ 0 → (now («public_key» .exit) ≡ bytesOf (levelOf level .r) (publicOf (levelOf level) (now (seed .entry))))
+        × (now («private_key» .exit) ≡ privateOf (levelOf level) (now (seed .entry))))
+        × (countsOf (made .counts) ≡ keyCounts (levelOf level) (now (seed .entry))) ⌝ }
+{
+    let drawn = both_halves(level, seed);
+    let counts = drawn.counts;
+    if drawn.ran_out {
+        return Made { number: 10, counts };
     }
+    let h0 = drawn.h0;
+    let h1 = drawn.h1;
+    if !write(level, seed, KeyWords { h0, h1 }, public_key, private_key) {
+        return Made { number: 5, counts };
+    }
+    Made { number: 0, counts }
 }

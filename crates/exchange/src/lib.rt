@@ -16,6 +16,7 @@ mod sampler;
 mod wrapping;
 
 use hashing::refuse;
+use keys::KeyCounts;
 pub use record::read_record;
 use ring::words::store;
 ghost use lib.ListN.{length};
@@ -47,38 +48,32 @@ pub fn error_of(level: u32, message: &[u8], e0: &mut [u8], e1: &mut [u8]) -> Err
 
 pub struct KeyAnswer {
     pub answer: u32,
-    pub replaced0: u32,
-    pub replaced1: u32,
+    pub counts: KeyCounts,
 }
 
-// Key making: a public and a private key from a seed, and how many positions of h0 and of h1 were replaced.
+// Key making: a public and a private key from a seed, and how many words each half of the key used and passed over.
 pub fn make_key(level: u32, seed: &[u8], public_key: &mut [u8], private_key: &mut [u8]) -> KeyAnswer
     ensures { λ r. ⌜ MakeKeyPromise level (now (seed .entry)) (length (now («public_key» .entry))) (length (now («private_key» .entry)))
         (r .answer) (now («public_key» .exit)) (now («private_key» .exit)) ⌝ }
     ensures { λ r. ⌜ KeyCountPromise level (now (seed .entry)) (length (now («public_key» .entry))) (length (now («private_key» .entry)))
-        (r .replaced0) (r .replaced1) ⌝ }
+        (r .counts) ⌝ }
 {
     let answer = judge::making(level, seed, public_key.len(), private_key.len());
     if answer != 0 {
         return KeyAnswer {
             answer: refuse::two(answer, public_key, private_key),
-            replaced0: 0,
-            replaced1: 0,
+            counts: keys::no_counts(),
         };
     }
-    let made = keys::write(level, seed, public_key, private_key);
-    if !made.exists {
+    let made = keys::make(level, seed, public_key, private_key);
+    let counts = made.counts;
+    if made.number != 0 {
         return KeyAnswer {
-            answer: refuse::two(5, public_key, private_key),
-            replaced0: 0,
-            replaced1: 0,
+            answer: refuse::two(made.number, public_key, private_key),
+            counts: keys::no_counts(),
         };
     }
-    KeyAnswer {
-        answer: 0,
-        replaced0: made.replaced0,
-        replaced1: made.replaced1,
-    }
+    KeyAnswer { answer: 0, counts }
 }
 
 pub struct FairAnswer {

@@ -1,23 +1,21 @@
 -- `run`: what each entry gives goes on to the next.
 use mathlib.Core.Path.{_≡_, refl, sym, ap, ap₂, _∙_}
-use mathlib.Core.Bool.{true, false}
 use mathlib.Core.List.{List, [], _∷_, _++_}
-use mathlib.Core.Logic.{_⊎_}
 use Prim.Native.Nat.{ℕ, _≤_}
 use native.Mathlib.Omega.{arith}
 use lib.ListN.{length, take, drop}
 use lib.Seq.{length-take-le, take-at}
 use borrow.Author.Needs.{needs}
+use Rattle.hashing.specs.Answers.{firstOf}
 use Rattle.hashing.specs.Answers.Outcome.{gives}
 use Rattle.hashing.proofs.Answers.{one-output, two-outputs}
 use Rattle.ring.specs.Levels.{levelOf, messageBytes, ciphertextBytes}
-use Rattle.ring.specs.Polynomials.{hasInverse}
 use Rattle.ring.proofs.Levels.{sizes}
 use Rattle.exchange.specs.Fits.{FromKeyMaking, Bytes}
 use Rattle.exchange.specs.Opening.{opened}
 use Rattle.exchange.specs.decoder.Decoder.{bgf}
-use Rattle.exchange.specs.Promises.{make-key-says, wrap-says, open-says}
-use Rattle.exchange.specs.Scheme.{hashK, h0Of, privateOf}
+use Rattle.exchange.specs.Promises.{work-reasons, make-key-says, wrap-says, open-says}
+use Rattle.exchange.specs.Scheme.{hashK, privateOf}
 use Rattle.both_ends.specs.BothEnds.{sentTo}
 use Rattle.both_ends.proofs.Laws
 use Rattle.both_ends.proofs.run.Statement.{statement}
@@ -49,15 +47,13 @@ says c =
     let given = c .before .before .before .before .before .before .before .before .before .before .before .before .before .args in
     c .make-key .ensures .0 ∙ sym (ap₂ (make-key-says (given .level) (given .seed .now)) (c .make-key .kept .1 .1 .0) (c .make-key .kept .1 .1 .1 .0))
 
-made-or-not : (c : tie.After-make-key) →
+number : (c : tie.After-make-key) →
     let given = c .before .before .before .before .before .before .before .before .before .before .before .before .before .args in
-    let l = levelOf (given .level) in
-    let there = hasInverse (l .r) (h0Of l (given .seed .now)) in
-    ((there ≡ true) × (c .make-key .result .answer ≡ 0)) ⊎ ((there ≡ false) × (c .make-key .result .answer ≡ 5))
-made-or-not c =
+    c .make-key .result .answer ≡ firstOf (work-reasons (levelOf (given .level)) (given .seed .now))
+number c =
     let start = c .before .before .before .before .before .before .before .before .before .before .before .before .before in
     let is = Laws.clear-of (start .pre) in
-    Laws.made-or-not (start .args .level) (start .args .seed .now) _ _ _
+    Laws.made-number (start .args .level) (start .args .seed .now) _ _ _
     (record {
       levelKnown = is .levelKnown;
       seedSize = is .seedSize;
@@ -71,12 +67,10 @@ returns c =
     let refused = c .before .before .before .before in
     let tested = refused .before .before .before in
     let keys = tested .before .before .before .before in
-    let start = keys .before .before .before .before .before .before .before .before .before .before .before .before .before in
-    let none = Laws.unmade (made-or-not keys) (tested .if1 .taken) in
-    let answer = refused .two .ensures .0 ∙ none .1 in (
-      rw (answer, refused .two .ensures .1, refused .two .ensures .2)
-          (sym (Laws.no-ends (start .args .level) (start .args .seed .now) (start .args .message .now) _ _ (start .pre) (none .0))),
-      λ done. absurd (omega (arith, answer, done)),
+    let start = keys .before .before .before .before .before .before .before .before .before .before .before .before .before in (
+      rw (refused .two .ensures .0, refused .two .ensures .1, refused .two .ensures .2)
+          (sym (Laws.no-ends (start .args .level) (start .args .seed .now) (start .args .message .now) _ _ (start .pre) (number keys) (tested .if1 .taken))),
+      λ done. absurd (tested .if1 .taken (sym (refused .two .ensures .0) ∙ done)),
     )
 
 -- the keys that were made are a pair of our own
@@ -171,8 +165,8 @@ returns-2 c =
     let given = start .args in
     let sent = wrapped wrap .2 in
     let own = opens last in
-    let there = Laws.made (made-or-not keys) (tested .if1 .left) in (
-      rw (own .0, own .1, sent) (sym (Laws.ends (given .level) (given .seed .now) (given .message .now) _ _ (start .pre) there)),
+    let clear = sym (number keys) ∙ tested .if1 .left in (
+      rw (own .0, own .1, sent) (sym (Laws.ends (given .level) (given .seed .now) (given .message .now) _ _ (start .pre) clear)),
       λ done. rw (own .1, sent) (Laws.ends-agree (given .level) (given .seed .now) (given .message .now) _ _ (pair tested) (message known)),
     )
 

@@ -1,28 +1,25 @@
--- The two halves that key making samples are polynomials of the ring, each of weight d; how they are written. Assumes nothing.
+-- The two halves that key making draws are polynomials of the ring, each of weight d; how they are written. Assumes nothing.
 use mathlib.Core.Path.{_≡_, refl, sym, ap, _∙_}
-use mathlib.Core.Bool.{Bool, true, false, _&&_}
+use mathlib.Core.Bool.{Bool, true, false}
 use mathlib.Core.List.{List, [], _∷_, _++_, append-assoc}
 use Prim.Native.Nat.{ℕ, suc, _+_, _*_, _/_, _%_, _≤_, _<_}
 use native.Mathlib.Nat.{zero-add}
 use native.Mathlib.Numerals.{add-one}
 use native.Mathlib.Omega.{arith}
-use lib.Dec.{ltb, lit≤}
+use lib.Dec.{lit≤}
 use lib.ListN.{length, getD, set, drop, take, length-append}
 use lib.Seq.{length-take-le, take-suc, drop-cons, set-at}
-use borrow.Author.Tests.{le-ltb}
-use Rattle.hashing.specs.Lists.{bits}
+use borrow.Author.Tests.{ltb-false}
 use Rattle.hashing.specs.Sponge.{sha3-384}
 use Rattle.hashing.proofs.sponge.Squeezing.{sha3-384-length}
-use Rattle.ring.specs.Bytes.{bytesOf, numbers}
-use Rattle.ring.specs.Levels.{levelOf, messageBytes}
+use Rattle.ring.specs.Levels.{Level, messageBytes}
 use Rattle.ring.specs.Polynomials.{Poly, InRing, weight, listed, support}
-use Rattle.ring.proofs.Layouts.{Below, bits-bytesOf}
-use Rattle.exchange.specs.Sampler.{sample, sampleKey}
-use Rattle.exchange.specs.Scheme.{keyStream, h0Of, h1Of, keyDigest, twoBytes}
-use Rattle.ring.proofs.Levels.{sizes}
-use Rattle.exchange.proofs.Making.{length-twoBytes, bounded}
-use Rattle.exchange.proofs.Streams.{below-drop, shake256-below, words-below}
-use Rattle.exchange.proofs.sampler.Laws.{sample-below, sample-weight}
+use Rattle.ring.proofs.Bools.{both-false}
+use Rattle.exchange.specs.Fair.{ranOut, drawnFor}
+use Rattle.exchange.specs.Scheme.{h0Drawn, h1Drawn, h0Of, h1Of, keyRanOut, keyDigest, twoBytes}
+use Rattle.exchange.proofs.Making.{length-twoBytes}
+use Rattle.exchange.proofs.fair.Laws.{Sound, fair-sound}
+use Rattle.exchange.proofs.sampler.Laws.{distinct-weight}
 
 -- a polynomial of the ring, of weight d
 pub record Half (r d : ℕ) (h : Poly) : Type 0 where
@@ -32,38 +29,34 @@ pub record Half (r d : ℕ) (h : Poly) : Type 0 where
 pub half-is : {r d : ℕ} {a b : Poly} → a ≡ b → Half r d b → Half r d a
 half-is same half = rw same half
 
-sampled-half : (r d : ℕ) (bytes : List ℕ) → d ≤ r → Below 8 bytes → Half r d (support (sampleKey r d (numbers 4 d bytes)))
-unfolding sampleKey support
-sampled-half r d bytes room small =
+-- what is drawn has its weight where the words did not run out
+drawn-half : (l : Level) (words : List ℕ) → ranOut (l .d) (drawnFor l words) ≡ false → Half (l .r) (l .d) (support (drawnFor l words .positions))
+unfolding support ranOut
+drawn-half l words enough =
+    let full : l .d ≤ length positions = ltb-false (length positions) (l .d) enough in
     record {
-      inside = λ k past. outside k past (listed k (sample r d words)) refl;
-      weighs = sample-weight r d words room (words-below d bytes small);
+      inside = λ k past. outside k past (listed k positions) refl;
+      weighs = distinct-weight (l .r) positions (sound .apart) (sound .within) ∙ omega (arith, full, sound .few);
     }
   where
-    words : List ℕ
-    words = numbers 4 d bytes
+    positions : List ℕ
+    positions = drawnFor l words .positions
 
-    outside : (k : ℕ) → r ≤ k → (t : Bool) → listed k (sample r d words) ≡ t → t ≡ false
-    outside k past true e = absurd (let below = sample-below r d words room (words-below d bytes small) k e in omega arith)
+    sound : Sound (l .r) (l .d) (drawnFor l words)
+    sound = fair-sound l words
+
+    outside : (k : ℕ) → l .r ≤ k → (t : Bool) → listed k positions ≡ t → t ≡ false
+    outside k past true e = absurd (let below = sound .within k e in omega arith)
     outside k past false e = refl
 
-module _ (level : ℕ) (seed : List ℕ) where
-  stream-below : Below 8 (keyStream (levelOf level) seed)
-  unfolding keyStream
-  stream-below = shake256-below (take messageBytes seed) (8 * levelOf level .d)
+module _ (l : Level) (seed : List ℕ) (enough : keyRanOut l seed ≡ false) where
+  pub h0-half : Half (l .r) (l .d) (h0Of l seed)
+  unfolding keyRanOut h0Of h0Drawn
+  h0-half = drawn-half l _ (both-false (ranOut (l .d) (h0Drawn l seed)) _ enough .0)
 
-  pub h0-half : Half (levelOf level .r) (levelOf level .d) (h0Of (levelOf level) seed)
-  unfolding h0Of
-  h0-half =
-      let bounds = sizes level in
-      sampled-half (levelOf level .r) (levelOf level .d) (keyStream (levelOf level) seed) (omega arith) stream-below
-
-  pub h1-half : Half (levelOf level .r) (levelOf level .d) (h1Of (levelOf level) seed)
-  unfolding h1Of
-  h1-half =
-      let bounds = sizes level in
-      sampled-half (levelOf level .r) (levelOf level .d) (drop (4 * levelOf level .d) (keyStream (levelOf level) seed)) (omega arith)
-      (below-drop 8 (4 * levelOf level .d) (keyStream (levelOf level) seed) stream-below)
+  pub h1-half : Half (l .r) (l .d) (h1Of l seed)
+  unfolding keyRanOut h1Of h1Drawn
+  h1-half = drawn-half l _ (both-false (ranOut (l .d) (h0Drawn l seed)) _ enough .1)
 
 pub keyDigest-length : (public : List ℕ) → length (keyDigest public) ≡ messageBytes
 unfolding keyDigest

@@ -49,12 +49,9 @@ mostPasses = (words + 7) / 8
 abbrev pub wideWords : ℕ
 wideWords = words + 8 * mostPasses
 
--- what the samplers read: 4 bytes for a position of an error, and for each of both halves of a key
+-- what the sampler reads: 4 bytes for a position of an error
 abbrev pub errorBytes : ℕ
 errorBytes = 4 * mostT
-
-abbrev pub keyStreamBytes : ℕ
-keyStreamBytes = 8 * mostD
 
 -- a private key and a ciphertext
 abbrev pub mostPrivateBytes : ℕ

@@ -21,19 +21,19 @@ returns c =
 
 write-report-requires : tie.Need-write-report-requires
 write-report-requires c κs =
-    let judged = c .before .before .before .before .before .before .before .before in
+    let judged = c .before .before .before .before .before .before .before .before .before in
     making-door-clear _ _ _ _ _ (sym (judged .before .making-door .ensures) ∙ judged .if1 .left) .1
 
 returns-2 : tie.Need-returns-2
 unfolding make-key-says make-key-door-says
 returns-2 c =
     let wrote = c .before .before in
-    let made = wrote .before .before .before .before .before .before in
+    let made = wrote .before .before .before .before .before .before .before in
     let judged = made .before .before .before in
     let none = sym (judged .before .making-door .ensures) ∙ judged .if1 .left in
     let clear = making-door-clear _ _ _ _ _ none in
     let same = first-after _ _ (making-door-numbered _ _ _ _ _) none ∙ sym (first-after _ _ (making-numbered _ _ _ _) (clear .0)) in
-    rw (wrote .write-report .ensures) (with-report _ _ _ _ _ _ _ same (clear .1) (made .make-key .ensures .0) (made .make-key .ensures .1))
+    rw (wrote .write-report .ensures) (with-report _ _ _ _ _ _ same (clear .1) (made .make-key .ensures .0) (made .make-key .ensures .1))
 
 pub bike-make-key-spec : {M : Type 1} → statement M
 bike-make-key-spec =

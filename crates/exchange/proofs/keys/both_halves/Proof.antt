@@ -1,67 +1,74 @@
--- `both_halves` takes its halves one after the other from the stream.
-use mathlib.Core.Path.{_≡_, sym, ap₂, _∙_}
-use Prim.Native.Nat.{_+_, _-_, _*_, _/_, _≤_}
+-- `both_halves` draws h1 from the words after those that h0 used.
+use mathlib.Core.Path.{_≡_, sym, ap, ap₂, _∙_}
+use mathlib.Core.Bool.{_||_}
+use mathlib.Core.List.{List}
+use Prim.Native.Nat.{ℕ, _+_, _-_, _*_, _≤_}
+use native.Mathlib.Nat.{le-of-eq}
 use native.Mathlib.Omega.{arith}
-use lib.ListN.{length, take, drop}
+use lib.ListN.{length, take, drop, length-drop}
 use lib.Seq.{length-take-le}
 use borrow.Author.Needs.{needs}
+use Rattle.hashing.proofs.sponge.Squeezing.{shake256-length}
+use Rattle.ring.specs.Bytes.{numbers}
 use Rattle.ring.specs.Levels.{levelOf}
-use Rattle.exchange.specs.Scheme.{keyStream, h0Of, h1Of, h0Replaced, h1Replaced}
-use Rattle.ring.proofs.Levels.{sizes}
-use Rattle.exchange.proofs.Parts.{drop-take}
+use Rattle.ring.proofs.little_endian.Laws.{numbers-length}
+use Rattle.exchange.specs.Fair.{mostWords, drawnFor}
+use Rattle.exchange.specs.Scheme.{keyWords, keyStream, h0Drawn, h1Drawn, h0Of, h1Of, keyRanOut}
+use Rattle.exchange.proofs.fair.Laws.{fair-used}
 use Rattle.exchange.proofs.keys.both_halves.Statement.{statement}
 use Rattle.exchange.proofs.keys.both_halves.Tie as tie
 
-room : (c : tie.After-stream) → 8 * c .before .key-weight .result ≤ length (c .stream .result)
-room c = omega (arith, sizes (c .before .before .before .args .level))
+-- the words are the seed's
+words : (c : tie.After-words-of) → c .words-of .result ≡ keyStream (c .before .before .before .before .args .seed .now)
+unfolding keyStream
+words c = c .words-of .ensures ∙ ap (numbers 4 keyWords) (c .before .before .stream .ensures)
 
-cut : (c : tie.After-stream) → length (take (8 * c .before .key-weight .result) (c .stream .result)) ≡ 8 * c .before .key-weight .result
-cut c = length-take-le _ _ (room c)
+long : (c : tie.After-words-of) → length (c .words-of .result) ≡ keyWords
+long c = ap length (c .words-of .ensures) ∙ numbers-length 4 keyWords _
 
--- the words are the stream of the seed
-words : (c : tie.After-stream) →
-    let given = c .before .before .before .args in
-    take (8 * c .before .key-weight .result) (c .stream .result) ≡ keyStream (levelOf (given .level)) (given .seed .now)
-words c = rw (c .before .key-weight .ensures) (c .stream .ensures)
+-- h0 uses no more than its share
+share : (c : tie.After-polynomial) → c .polynomial .result .used ≤ mostWords
+share c =
+    let given = c .before .before .before .before .before .before .args in
+    omega (arith, c .polynomial .ensures .2, fair-used (levelOf (given .level)) (take mostWords (c .before .before .words-of .result)), length-take-le mostWords (c .before .before .words-of .result) (omega (arith, long (c .before .before))))
 
-rest : (c : tie.After-stream) →
-    let n = 8 * c .before .key-weight .result in
-    let given = c .before .before .before .args in
-    take (n - n / 2) (drop (n / 2) (c .stream .result)) ≡ drop (4 * levelOf (given .level) .d) (keyStream (levelOf (given .level)) (given .seed .now))
-rest c =
-    let n = 8 * c .before .key-weight .result in
-    let within : n / 2 ≤ length (c .stream .result) = omega (arith, room c) in
-    let all : n ≡ n / 2 + (n - n / 2) = omega arith in
-    let middle : n / 2 ≡ 4 * levelOf (c .before .before .before .args .level) .d = omega arith in
-    sym (drop-take (n / 2) (n - n / 2) (c .stream .result) within) ∙ ap₂ drop middle (rw (← all) (words c))
+-- and the words after them are lent to h1
+after : (used : ℕ) (list : List ℕ) → take (used + mostWords - used) (drop used list) ≡ take mostWords (drop used list)
+after used list = let same : used + mostWords - used ≡ mostWords = omega arith in rw same
 
-half-requires : tie.Need-half-requires
-half-requires c κs = rw (cut (c .before)) (omega arith)
-
-part-half-end : tie.Need-part-half-end
-part-half-end c = room (c .before .before .before)
+polynomial-requires-2 : tie.Need-polynomial-requires-2
+polynomial-requires-2 c κs =
+    let drawn = c .before .before .before in
+    let used = drawn .polynomial .result .used in
+    let list = drawn .before .before .words-of .result in
+    let room : mostWords ≤ length (drop used list) = omega (arith, length-drop used list, long (drawn .before .before), share drawn) in
+    rw (after used list) (le-of-eq (length-take-le mostWords (drop used list) room))
 
 returns : tie.Need-returns
-unfolding h0Of h1Of h0Replaced h1Replaced
+unfolding h0Of h1Of keyRanOut h0Drawn h1Drawn
 returns c =
-    let last = c .before .before in
-    let stream = last .before .before .before .before .before in
-    let first = rw (words stream) at (last .before .before .before .half .ensures) in
-    let second = rw (rest stream) at (last .half2 .ensures) in
-    (first .0, second .0, first .1, second .1)
+    let last = c .before .before .before .before in
+    let drawn = last .before .before .before .before in
+    let made = drawn .before .before in
+    let first = rw (words made) at (drawn .polynomial .ensures) in
+    let second = rw (after (drawn .polynomial .result .used) (made .words-of .result), words made, first .2) at (last .polynomial2 .ensures) in
+    (first .0, second .0, ap₂ _||_ (first .1) (second .1), rw (first .2, first .3, second .2, second .3))
 
 pub both-halves-spec : {M : Type 1} → statement M
 both-halves-spec =
     tie.close
     (tie.spec
     (λ c κs. search needs)
-    (λ c. omega (arith, sizes (c .before .before .args .level)))
-    (λ c κs. search needs)
-    room
-    (λ c. sym (cut (c .before)))
-    half-requires
-    (λ c. search needs)
-    (λ c. search needs)
-    part-half-end
-    (λ c κs. search needs)
+    (λ c. sym (ap length (c .before .stream .ensures) ∙ shake256-length _ _))
+    (λ c κs. le-of-eq (sym (ap length (c .before .stream .ensures) ∙ shake256-length _ _)))
+    (λ c. omega (arith, long c))
+    (λ c. sym (length-take-le mostWords (c .before .words-of .result) (omega (arith, long (c .before)))))
+    (λ c κs. le-of-eq (length-take-le mostWords (c .before .words-of .result) (omega (arith, long (c .before)))))
+    (λ c. omega (arith, share (c .before)))
+    (λ c. omega (arith, share (c .before)))
+    (λ c. omega (arith, share (c .before)))
+    (λ c. omega arith)
+    (λ c. omega arith)
+    (λ c. omega (arith, share (c .before .before), long (c .before .before .before .before)))
+    polynomial-requires-2
     returns)

@@ -1,38 +1,22 @@
--- `stream` squeezes the front of its array, from the first 32 bytes of the seed.
-use mathlib.Core.Path.{sym, _∙_}
-use Prim.Native.Nat.{_*_, _≤_}
+-- `stream` squeezes its bytes from the first 32 of the seed.
+use mathlib.Core.Path.{sym}
 use native.Mathlib.Omega.{arith}
-use lib.ListN.{length}
-use lib.Seq.{length-take-le, take-at}
+use lib.Seq.{length-take-le}
 use borrow.Author.Needs.{needs}
 use Rattle.hashing.specs.Sponge.{shake256}
-use Rattle.exchange.specs.Scheme.{keyStream}
-use Rattle.ring.proofs.Levels.{sizes}
 use Rattle.exchange.proofs.keys.stream.Statement.{statement}
 use Rattle.exchange.proofs.keys.stream.Tie as tie
 
--- the level's stream fits
-room : (c : tie.After-no-words) → 8 * c .before .key-weight .result ≤ length (c .no-words .result)
-room c = omega (arith, sizes (c .before .before .before .args .level))
-
 returns : tie.Need-returns
-unfolding keyStream shake256
-returns c =
-    let digest = c .before .digest in
-    let made = c .before .before .before .before in
-    let cut = length-take-le (8 * made .before .key-weight .result) (made .no-words .result) (room made) in
-    rw (← made .before .key-weight .ensures)
-    (take-at _ _ _ (digest .kept .1 .1 .1 .0 ∙ cut) ∙ rw cut at (digest .ensures))
+unfolding shake256
+returns c = rw (← c .before .before .before .before .no-bytes .ensures) at (c .before .digest .ensures)
 
 pub stream-spec : {M : Type 1} → statement M
 stream-spec =
     tie.close
     (tie.spec
     (λ c κs. search needs)
-    (λ c. omega (arith, sizes (c .before .before .args .level)))
-    (λ c κs. search needs)
-    (λ c. sym (length-take-le 32 (c .before .before .before .before .args .seed .now) (c .before .before .before .before .pre)))
-    (λ c. room (c .before))
-    (λ c. sym (length-take-le _ _ (room (c .before .before))))
+    (λ c. sym (length-take-le 32 (c .before .before .before .args .seed .now) (c .before .before .before .pre)))
+    (λ c. c .before .before .no-bytes .ensures)
     (λ c κs. search needs)
     returns)
