@@ -4,6 +4,7 @@ use crate::buffer::blank;
 use crate::buffer::mark;
 use crate::buffer::read;
 use crate::buffer::size;
+use crate::words;
 use exchange::record::Reading;
 use exchange::record::Thing;
 use libc::STDOUT_FILENO;
@@ -11,7 +12,7 @@ use libc::STDOUT_FILENO;
 // How many inputs and outputs an entry has; no inputs where the number is no entry's.
 fn inputs(number: u8) -> u8 {
     match number {
-        1 | 2 | 4 | 5 | 7 | 10 | 11 | 12 => 1,
+        1 | 2 | 4 | 5 | 7 | 10 | 11 | 12 | 13 => 1,
         3 | 6 | 8 | 9 => 2,
         _ => 0,
     }
@@ -19,7 +20,7 @@ fn inputs(number: u8) -> u8 {
 
 fn outputs(number: u8) -> u8 {
     match number {
-        1 | 2 | 3 | 4 | 9 | 11 | 12 => 1,
+        1 | 2 | 3 | 4 | 9 | 11 | 12 | 13 => 1,
         5 | 6 | 7 | 8 => 2,
         _ => 0,
     }
@@ -31,35 +32,48 @@ struct Said {
     reported: u8,
     first: u32,
     second: u32,
+    third: u32,
+    fourth: u32,
+}
+
+fn told(answer: u32, reported: u8, first: u32, second: u32) -> Said {
+    Said {
+        answer,
+        reported,
+        first,
+        second,
+        third: 0,
+        fourth: 0,
+    }
 }
 
 fn silent(answer: u32) -> Said {
-    Said {
-        answer,
-        reported: 0,
-        first: 0,
-        second: 0,
-    }
+    told(answer, 0, 0, 0)
 }
 
 fn error_of(level: u32, message: &[u8], e0: &mut [u8], e1: &mut [u8]) -> Said {
     let counted = exchange::error_of(level, message, e0, e1);
-    Said {
-        answer: counted.answer,
-        reported: 1,
-        first: counted.replaced,
-        second: 0,
-    }
+    told(counted.answer, 1, counted.replaced, 0)
 }
 
 fn make_key(level: u32, seed: &[u8], public_key: &mut [u8], private_key: &mut [u8]) -> Said {
     let counted = exchange::make_key(level, seed, public_key, private_key);
+    let counts = counted.counts;
     Said {
         answer: counted.answer,
-        reported: 2,
-        first: counted.replaced0,
-        second: counted.replaced1,
+        reported: 4,
+        first: counts.used0,
+        second: counts.passed0,
+        third: counts.used1,
+        fourth: counts.passed1,
     }
+}
+
+fn fair_polynomial(level: u32, bytes: &[u8], out: &mut [u8]) -> Said {
+    let n = words::count(bytes.len());
+    let list = words::read(bytes, n);
+    let counted = exchange::fair_polynomial(level, &list[..n], out);
+    told(counted.answer, 2, counted.used, counted.passed)
 }
 
 fn called(number: u8, level: u32, a: &[u8], b: &[u8], out0: &mut [u8], out1: &mut [u8]) -> Said {
@@ -74,7 +88,8 @@ fn called(number: u8, level: u32, a: &[u8], b: &[u8], out0: &mut [u8], out1: &mu
         8 => silent(exchange::wrap(level, a, b, out0, out1)),
         9 => silent(exchange::open(level, a, b, out0)),
         11 => silent(packing::pack(level, a, out0)),
-        _ => silent(packing::unpack(level, a, out0)),
+        12 => silent(packing::unpack(level, a, out0)),
+        _ => fair_polynomial(level, a, out0),
     }
 }
 
@@ -123,6 +138,12 @@ fn print_record(bytes: &[u8]) {
     }
 }
 
+fn print_number(reported: u8, i: u8, number: u32) {
+    if i < reported {
+        print_field(number as u64);
+    }
+}
+
 // The answer of an entry with outputs, what they hold, and the numbers.
 fn print_answer(number: u8, level: u32, a: &[u8], b: &[u8], out0: &mut [u8], out1: &mut [u8]) {
     mark(out0);
@@ -133,12 +154,10 @@ fn print_answer(number: u8, level: u32, a: &[u8], b: &[u8], out0: &mut [u8], out
     if outputs(number) == 2 {
         print_out(out1);
     }
-    if 0 < said.reported {
-        print_field(said.first as u64);
-    }
-    if 1 < said.reported {
-        print_field(said.second as u64);
-    }
+    print_number(said.reported, 0, said.first);
+    print_number(said.reported, 1, said.second);
+    print_number(said.reported, 2, said.third);
+    print_number(said.reported, 3, said.fourth);
 }
 
 fn print_line(
@@ -205,6 +224,9 @@ pub fn answered(ordinal: u64, number: u8, level: u32) -> bool {
     let mut a = blank();
     let n = size(true);
     if MOST < n {
+        return false;
+    }
+    if words::broken(number, n) {
         return false;
     }
     with_input0(ordinal, number, level, &mut a[..n])

@@ -2,6 +2,7 @@
 // line with its answer and all that its outputs then hold.
 mod buffer;
 mod entry;
+mod words;
 
 use libc::STDIN_FILENO;
 use libc::STDOUT_FILENO;
