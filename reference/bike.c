@@ -125,11 +125,12 @@ static uint32_t refusal(const struct level *v, const struct lent lent[], size_t 
     if (any(length_wrong, v, lent, n))
         return 2;
     bool four_first = wrong(W_FOUR_BEFORE_THREE) || (wrong(W_UNPACK_FOUR_FIRST) && lent[0].form == PACKED_KEY);
+    bool unchecked = wrong(W_PACK_UNCHECKED) && lent[n - 1].form == PACKED_KEY;
     if (four_first && any(key_bad, v, lent, n))
         return 4;
     if (any(pad_set, v, lent, n))
         return 3;
-    if (any(key_bad, v, lent, n))
+    if (!unchecked && any(key_bad, v, lent, n))
         return 4;
     return 0;
 }
@@ -150,6 +151,27 @@ static uint32_t finish(uint32_t answer, const struct level *v, const struct lent
             for (size_t k = 0; k < lent[i].n; k++)
                 lent[i].out[k] = 0;
     return answer;
+}
+
+/* An entry that reports no numbers: refusals 1 to 4, then its work, which gives the answer; zeros after a refusal. */
+static uint32_t enter(uint32_t level, const struct lent lent[], size_t n,
+                      uint32_t (*work)(const struct level *, const struct lent[]))
+{
+    const struct level *v = level_of(level);
+    uint32_t answer = refusal(v, lent, n);
+    if (answer == 0)
+        answer = work(v, lent);
+    return finish(answer, v, lent, n);
+}
+
+static struct poly poly_lent(const struct level *v, const struct lent *b)
+{
+    return poly_of_bytes(b->in, polynomial_bytes(v));
+}
+
+static void write_poly(const struct level *v, const struct poly *a, const struct lent *b)
+{
+    poly_to_bytes(a, b->out, polynomial_bytes(v));
 }
 
 uint32_t ref_shake256(const uint8_t *m, size_t mn, uint8_t *out, size_t on)
@@ -175,39 +197,39 @@ uint32_t ref_sha3_384(const uint8_t *m, size_t mn, uint8_t *out, size_t on)
     return 0;
 }
 
+static uint32_t multiply(const struct level *v, const struct lent lent[])
+{
+    struct poly a = poly_lent(v, &lent[0]), b = poly_lent(v, &lent[1]), product = poly_product(v->r, &a, &b);
+    write_poly(v, &product, &lent[2]);
+    return 0;
+}
+
 uint32_t ref_product(uint32_t level, const uint8_t *a, size_t an, const uint8_t *b, size_t bn,
                      uint8_t *out, size_t on)
 {
-    const struct level *v = level_of(level);
     const struct lent lent[] = {input(POLYNOMIAL, a, an), input(POLYNOMIAL, b, bn), output(POLYNOMIAL, out, on)};
-    uint32_t answer = refusal(v, lent, 3);
-    if (answer == 0) {
-        struct poly pa = poly_of_bytes(a, polynomial_bytes(v));
-        struct poly pb = poly_of_bytes(b, polynomial_bytes(v));
-        struct poly product = poly_product(v->r, &pa, &pb);
-        poly_to_bytes(&product, out, polynomial_bytes(v));
-    }
-    return finish(answer, v, lent, 3);
+    return enter(level, lent, 3, multiply);
+}
+
+static uint32_t invert(const struct level *v, const struct lent lent[])
+{
+    struct poly inverse, a = poly_lent(v, &lent[0]);
+    bool exists = poly_inverse(v->r, &a, &inverse);
+    write_poly(v, &inverse, &lent[1]);
+    return exists ? 0 : 5;
 }
 
 uint32_t ref_inverse(uint32_t level, const uint8_t *a, size_t an, uint8_t *out, size_t on)
 {
-    const struct level *v = level_of(level);
     const struct lent lent[] = {input(POLYNOMIAL, a, an), output(POLYNOMIAL, out, on)};
-    uint32_t answer = refusal(v, lent, 2);
-    if (answer == 0) {
-        struct poly inverse, pa = poly_of_bytes(a, polynomial_bytes(v));
-        if (!poly_inverse(v->r, &pa, &inverse))
-            answer = 5;
-        poly_to_bytes(&inverse, out, polynomial_bytes(v));
-    }
-    return finish(answer, v, lent, 2);
+    return enter(level, lent, 2, invert);
 }
 
-static void write_error(const struct level *v, const struct poly e[2], uint8_t *e0, uint8_t *e1)
+/* Lent are e0 and e1. */
+static void write_error(const struct level *v, const struct poly e[2], const struct lent lent[2])
 {
-    poly_to_bytes(&e[0], e0, polynomial_bytes(v));
-    poly_to_bytes(&e[1], e1, polynomial_bytes(v));
+    for (int half = 0; half < 2; half++)
+        write_poly(v, &e[half], &lent[half]);
 }
 
 /* The numbers that an entry reports, after its answer. */
@@ -232,26 +254,26 @@ uint32_t ref_error_of(uint32_t level, const uint8_t *m, size_t mn, uint8_t *e0, 
     }
     *replaced = v != NULL && mn == SHORT_BYTES ? hash_H(v, m, e) : 0;
     if (answer == 0)
-        write_error(v, e, e0, e1);
+        write_error(v, e, &lent[1]);
     report_numbers(answer, replaced, 1);
     return finish(answer, v, lent, 3);
+}
+
+static uint32_t decode(const struct level *v, const struct lent lent[])
+{
+    struct key key = key_lent(v, &lent[0]);
+    struct poly e[2], syndrome = poly_lent(v, &lent[1]);
+    bool decoded = bgf(v, &key, &syndrome, e);
+    write_error(v, e, &lent[2]);
+    return decoded ? 0 : 6;
 }
 
 uint32_t ref_decode(uint32_t level, const uint8_t *key, size_t keyn, const uint8_t *s, size_t sn,
                     uint8_t *e0, size_t e0n, uint8_t *e1, size_t e1n)
 {
-    const struct level *v = level_of(level);
     const struct lent lent[] = {input(PRIVATE_KEY, key, keyn), input(POLYNOMIAL, s, sn),
                                 output(POLYNOMIAL, e0, e0n), output(POLYNOMIAL, e1, e1n)};
-    uint32_t answer = refusal(v, lent, 4);
-    if (answer == 0) {
-        struct key k = key_lent(v, &lent[0]);
-        struct poly e[2], syndrome = poly_of_bytes(s, polynomial_bytes(v));
-        if (!bgf(v, &k, &syndrome, e))
-            answer = 6;
-        write_error(v, e, e0, e1);
-    }
-    return finish(answer, v, lent, 4);
+    return enter(level, lent, 4, decode);
 }
 
 /* The numbers of the two halves, h0's first. */
@@ -273,7 +295,7 @@ static uint32_t make_key(const struct level *v, const struct lent lent[], size_t
     if (answer == 0 && !key_public(v, &key, &h))
         answer = 5;
     if (answer == 0) {
-        poly_to_bytes(&h, lent[1].out, polynomial_bytes(v));
+        write_poly(v, &h, &lent[1]);
         hash_D(v, lent[1].out, key.digest);
         key_to_bytes(v, &key, lent[2].out);
     }
@@ -308,36 +330,31 @@ static void xor_short(uint8_t *out, const uint8_t *a, const uint8_t *b)
 }
 
 /* (e0, e1) = H(f(m, h)); c0 = e0 + e1·h; c1 = m xor L(e0, e1) */
-static void wrap_message(const struct level *v, const uint8_t *pub, const struct poly *h, const uint8_t *m,
-                         uint8_t *c, uint8_t *k)
+static uint32_t wrap_message(const struct level *v, const struct lent lent[])
 {
-    struct poly e[2];
+    struct poly e[2], h = poly_lent(v, &lent[0]);
+    const uint8_t *m = lent[1].in;
     uint8_t hidden[SHORT_BYTES], digest[DIGEST_MAX], f[SHORT_BYTES];
-    hash_D(v, pub, digest);
+    if (wrong(W_ZERO_KEY_REFUSED) && poly_weight(&h) == 0)
+        return 5;
+    hash_D(v, lent[0].in, digest);
     hash_f(m, digest, f);
     hash_H(v, f, e);
-    struct poly c0 = poly_product(v->r, &e[1], h);
+    struct poly c0 = poly_product(v->r, &e[1], &h);
     c0 = poly_sum(&e[0], &c0);
-    poly_to_bytes(&c0, c, polynomial_bytes(v));
+    write_poly(v, &c0, &lent[2]);
     hash_L(v, e, hidden);
-    xor_short(c + polynomial_bytes(v), wrong(W_C1_HIDES_F) ? f : m, hidden);
-    hash_K(v, wrong(W_K_OVER_F) ? f : m, c, k);
+    xor_short(lent[2].out + polynomial_bytes(v), wrong(W_C1_HIDES_F) ? f : m, hidden);
+    hash_K(v, wrong(W_K_OVER_F) ? f : m, lent[2].out, lent[3].out);
+    return 0;
 }
 
 uint32_t ref_wrap(uint32_t level, const uint8_t *h, size_t hn, const uint8_t *m, size_t mn,
                   uint8_t *c, size_t cn, uint8_t *k, size_t kn)
 {
-    const struct level *v = level_of(level);
     const struct lent lent[] = {input(POLYNOMIAL, h, hn), input(SHORT, m, mn), output(CIPHERTEXT, c, cn),
                                 output(SHORT, k, kn)};
-    uint32_t answer = refusal(v, lent, 4);
-    if (answer == 0) {
-        struct poly ph = poly_of_bytes(h, polynomial_bytes(v));
-        if (wrong(W_ZERO_KEY_REFUSED) && poly_weight(&ph) == 0)
-            return finish(5, v, lent, 4);
-        wrap_message(v, h, &ph, m, c, k);
-    }
-    return finish(answer, v, lent, 4);
+    return enter(level, lent, 4, wrap_message);
 }
 
 static bool same_error(const struct level *v, const struct poly e[2], const struct poly f[2])
@@ -366,60 +383,52 @@ static void bound_message(const struct level *v, const struct key *key, const ui
         memcpy(f, m, SHORT_BYTES);
 }
 
-/* The key is K(m', c) if e' = H(f(m', h)), else K(sigma, c); gives whether it is the first. */
-static bool open_ciphertext(const struct level *v, const struct key *key, const uint8_t *c, uint8_t *k)
+/* The key is K(m', c) if e' = H(f(m', h)), else K(sigma, c). */
+static uint32_t open_ciphertext(const struct level *v, const struct lent lent[])
 {
-    struct poly e[2], wanted[2], h0 = key_half(v, key, 0);
+    struct key key = key_lent(v, &lent[0]);
+    struct poly e[2], wanted[2], h0 = key_half(v, &key, 0), c0 = poly_lent(v, &lent[1]);
     uint8_t hidden[SHORT_BYTES], m[SHORT_BYTES], f[SHORT_BYTES];
-    struct poly c0 = poly_of_bytes(c, polynomial_bytes(v));
     struct poly syndrome = poly_product(v->r, &h0, &c0);
-    if (!bgf(v, key, &syndrome, e) && !wrong(W_OPEN_KEEPS_E))
+    if (!bgf(v, &key, &syndrome, e) && !wrong(W_OPEN_KEEPS_E))
         e[0] = e[1] = poly_zero();
     hash_L(v, e, hidden);
-    xor_short(m, c + polynomial_bytes(v), hidden);
-    bound_message(v, key, m, f);
+    xor_short(m, lent[1].in + polynomial_bytes(v), hidden);
+    bound_message(v, &key, m, f);
     hash_H(v, f, wanted);
     bool same = same_error(v, e, wanted);
-    hash_K(v, !same ? key->sigma : wrong(W_K_OVER_F) ? f : m, c, k);
-    return same;
+    hash_K(v, !same ? key.sigma : wrong(W_K_OVER_F) ? f : m, lent[1].in, lent[2].out);
+    return wrong(W_OPEN_TELLS) && !same ? 6 : 0;
 }
 
 uint32_t ref_open(uint32_t level, const uint8_t *key, size_t keyn, const uint8_t *c, size_t cn, uint8_t *k, size_t kn)
 {
-    const struct level *v = level_of(level);
     const struct lent lent[] = {input(PRIVATE_KEY, key, keyn), input(CIPHERTEXT, c, cn), output(SHORT, k, kn)};
-    uint32_t answer = refusal(v, lent, 3);
-    if (answer == 0) {
-        struct key private = key_lent(v, &lent[0]);
-        bool same = open_ciphertext(v, &private, c, k);
-        if (wrong(W_OPEN_TELLS) && !same)
-            answer = 6;
-    }
-    return finish(answer, v, lent, 3);
+    return enter(level, lent, 3, open_ciphertext);
+}
+
+static uint32_t pack(const struct level *v, const struct lent lent[])
+{
+    struct key key = key_lent(v, &lent[0]);
+    key_to_packed(v, &key, lent[1].out);
+    return 0;
 }
 
 uint32_t ref_pack_key(uint32_t level, const uint8_t *key, size_t keyn, uint8_t *packed, size_t packedn)
 {
-    const struct level *v = level_of(level);
     const struct lent lent[] = {input(PRIVATE_KEY, key, keyn), output(PACKED_KEY, packed, packedn)};
-    uint32_t answer = refusal(v, lent, 2);
-    if (answer == 4 && wrong(W_PACK_UNCHECKED))
-        answer = 0;
-    if (answer == 0) {
-        struct key private = key_lent(v, &lent[0]);
-        key_to_packed(v, &private, packed);
-    }
-    return finish(answer, v, lent, 2);
+    return enter(level, lent, 2, pack);
+}
+
+static uint32_t unpack(const struct level *v, const struct lent lent[])
+{
+    struct key key = key_of_packed(v, lent[0].in);
+    key_to_bytes(v, &key, lent[1].out);
+    return 0;
 }
 
 uint32_t ref_unpack_key(uint32_t level, const uint8_t *packed, size_t packedn, uint8_t *key, size_t keyn)
 {
-    const struct level *v = level_of(level);
     const struct lent lent[] = {input(PACKED_KEY, packed, packedn), output(PRIVATE_KEY, key, keyn)};
-    uint32_t answer = refusal(v, lent, 2);
-    if (answer == 0) {
-        struct key private = key_of_packed(v, packed);
-        key_to_bytes(v, &private, key);
-    }
-    return finish(answer, v, lent, 2);
+    return enter(level, lent, 2, unpack);
 }
