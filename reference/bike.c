@@ -12,7 +12,7 @@
 
 enum form { POLYNOMIAL, CIPHERTEXT, PRIVATE_KEY, PACKED_KEY, SEED, REPORT, SHORT };
 
-enum { REPORT_BYTES = 8 };
+enum { KEY_NUMBERS = 4, REPORT_BYTES = 4 * KEY_NUMBERS };
 
 /* A lent buffer; exactly one of in and out is used. */
 struct lent {
@@ -236,7 +236,7 @@ static void write_error(const struct level *v, const struct poly e[2], const str
 static void report_numbers(uint32_t answer, uint32_t numbers[], size_t n)
 {
     for (size_t i = 0; i < n; i++)
-        if (answer != 0 && !wrong(W_COUNTS_KEPT))
+        if (answer != 0 && !wrong(W_COUNTS_KEPT) && !(answer == 10 && wrong(W_TEN_COUNTS)))
             numbers[i] = 0;
 }
 
@@ -276,22 +276,37 @@ uint32_t ref_decode(uint32_t level, const uint8_t *key, size_t keyn, const uint8
     return enter(level, lent, 4, decode);
 }
 
+/* How many of n words a polynomial used, and how many of these it passed over. */
+static void count_words(const struct drawn *drawn, size_t n, uint32_t numbers[2])
+{
+    bool exchanged = wrong(W_PASSED_FIRST);
+    uint32_t large = wrong(W_LARGE_UNCOUNTED) ? 0 : drawn->large;
+    uint32_t again = wrong(W_LISTED_UNCOUNTED) ? 0 : drawn->again;
+    numbers[exchanged] = wrong(W_USED_ALL) ? (uint32_t)n : drawn->used;
+    numbers[!exchanged] = large + again;
+}
+
 /* The numbers of the two halves, h0's first. */
-static void count_halves(const uint32_t replaced[2], uint32_t numbers[2])
+static void count_halves(const struct drawn drawn[2], uint32_t numbers[KEY_NUMBERS])
 {
     bool exchanged = wrong(W_COUNTS_EXCHANGED);
     for (int half = 0; half < 2; half++)
-        numbers[half] = wrong(W_COUNTS_ADDED) ? replaced[0] + replaced[1] : replaced[exchanged ? 1 - half : half];
+        count_words(&drawn[exchanged ? 1 - half : half], WORDS_MAX, numbers + 2 * half);
+    for (int i = 0; i < 2 && wrong(W_COUNTS_ADDED); i++)
+        numbers[i] = numbers[2 + i] = numbers[i] + numbers[2 + i];
 }
 
 /* Lent are the seed, the public key, the private key, and through the door the report. */
-static uint32_t make_key(const struct level *v, const struct lent lent[], size_t n, uint32_t numbers[2])
+static uint32_t make_key(const struct level *v, const struct lent lent[], size_t n, uint32_t numbers[KEY_NUMBERS])
 {
-    uint32_t answer = refusal(v, lent, n), replaced[2] = {0, 0};
+    uint32_t answer = refusal(v, lent, n);
+    struct drawn drawn[2] = {{0}, {0}};
     struct key key;
     struct poly h;
     if (v != NULL && lent[0].n == SEED_BYTES)
-        key = key_of_seed(v, lent[0].in, replaced);
+        key = key_of_seed(v, lent[0].in, drawn);
+    if (answer == 0 && (ran_out(v, &drawn[0]) || ran_out(v, &drawn[1])))
+        answer = 10;
     if (answer == 0 && !key_public(v, &key, &h))
         answer = 5;
     if (answer == 0) {
@@ -299,17 +314,17 @@ static uint32_t make_key(const struct level *v, const struct lent lent[], size_t
         hash_D(v, lent[1].out, key.digest);
         key_to_bytes(v, &key, lent[2].out);
     }
-    count_halves(replaced, numbers);
-    report_numbers(answer, numbers, 2);
+    count_halves(drawn, numbers);
+    report_numbers(answer, numbers, KEY_NUMBERS);
     return finish(answer, v, lent, n);
 }
 
 uint32_t ref_make_key(uint32_t level, const uint8_t *seed, size_t seedn,
-                      uint8_t *pub, size_t pubn, uint8_t *priv, size_t privn, uint32_t replaced[2])
+                      uint8_t *pub, size_t pubn, uint8_t *priv, size_t privn, uint32_t numbers[KEY_NUMBERS])
 {
     const struct lent lent[] = {input(SEED, seed, seedn), output(POLYNOMIAL, pub, pubn),
                                 output(PRIVATE_KEY, priv, privn)};
-    return make_key(level_of(level), lent, 3, replaced);
+    return make_key(level_of(level), lent, 3, numbers);
 }
 
 uint32_t ref_make_key_door(uint32_t level, const uint8_t *seed, size_t seedn,
@@ -317,10 +332,32 @@ uint32_t ref_make_key_door(uint32_t level, const uint8_t *seed, size_t seedn,
 {
     const struct lent lent[] = {input(SEED, seed, seedn), output(POLYNOMIAL, pub, pubn),
                                 output(PRIVATE_KEY, priv, privn), output(REPORT, report, reportn)};
-    uint32_t numbers[2], answer = make_key(level_of(level), lent, 4, numbers);
+    uint32_t numbers[KEY_NUMBERS], answer = make_key(level_of(level), lent, 4, numbers);
     for (size_t i = 0; answer == 0 && i < REPORT_BYTES; i++)
         report[i] = (uint8_t)(numbers[i / 4] >> i % 4 * 8);
     return answer;
+}
+
+uint32_t ref_fair_polynomial(uint32_t level, const uint32_t *words, size_t n, uint8_t *out, size_t on,
+                             uint32_t numbers[2])
+{
+    const struct level *v = level_of(level);
+    const struct lent lent[] = {output(POLYNOMIAL, out, on)};
+    uint32_t answer = refusal(v, lent, 1);
+    struct drawn drawn = {0};
+    if (v != NULL)
+        drawn = draw(v, words, n);
+    if (answer == 0 && n > WORDS_MAX && !wrong(W_ANY_WORDS))
+        answer = 2;
+    if ((answer == 0 || (answer == 2 && wrong(W_TEN_BEFORE_TWO))) && ran_out(v, &drawn))
+        answer = 10;
+    if (answer == 0) {
+        struct poly a = poly_of_positions(drawn.list, v->d);
+        write_poly(v, &a, &lent[0]);
+    }
+    count_words(&drawn, n, numbers);
+    report_numbers(answer, numbers, 2);
+    return finish(answer, v, lent, 1);
 }
 
 static void xor_short(uint8_t *out, const uint8_t *a, const uint8_t *b)

@@ -3,8 +3,9 @@
  *
  * Answers: 0 done; 1 level is neither 1 nor 3; 2 a buffer has a wrong length; 3 a pad bit is set; 4 a private key's
  * position is >= r or not rising; 5 no inverse exists; 6 decoding failed; 7 record cut; 8 record of unknown kind;
- * 9 record length not its kind's. The smallest number that applies is given, after 1 nothing else is looked at, and a
- * refusal fills all outputs with zero at their actual lengths. The numbers that an entry reports are 0 then. */
+ * 9 record length not its kind's; 10 the words ran out. The smallest number that applies is given, but 10 before 5;
+ * after 1 nothing else is looked at, and a refusal fills all outputs with zero at their actual lengths. The numbers
+ * that an entry reports are 0 then. */
 #ifndef REF_BIKE_H
 #define REF_BIKE_H
 
@@ -27,11 +28,15 @@ uint32_t ref_error_of(uint32_t level, const uint8_t *m, size_t mn,
 uint32_t ref_decode(uint32_t level, const uint8_t *key, size_t keyn, const uint8_t *s, size_t sn,
                     uint8_t *e0, size_t e0n, uint8_t *e1, size_t e1n);
 
+/* The numbers are used words and those of them passed over: of h0, then of h1. */
 uint32_t ref_make_key(uint32_t level, const uint8_t *seed, size_t seedn,
-                      uint8_t *pub, size_t pubn, uint8_t *priv, size_t privn, uint32_t replaced[2]);
-/* As C sees it: the two numbers in a buffer of 8 bytes, 4 each, little-endian. */
+                      uint8_t *pub, size_t pubn, uint8_t *priv, size_t privn, uint32_t numbers[4]);
+/* As C sees it: the four numbers in a buffer of 16 bytes, 4 each, little-endian. */
 uint32_t ref_make_key_door(uint32_t level, const uint8_t *seed, size_t seedn,
                            uint8_t *pub, size_t pubn, uint8_t *priv, size_t privn, uint8_t *report, size_t reportn);
+/* One polynomial as key making draws it, from at most 512 words; with its two numbers. */
+uint32_t ref_fair_polynomial(uint32_t level, const uint32_t *words, size_t n, uint8_t *out, size_t on,
+                             uint32_t numbers[2]);
 uint32_t ref_wrap(uint32_t level, const uint8_t *h, size_t hn, const uint8_t *m, size_t mn,
                   uint8_t *c, size_t cn, uint8_t *k, size_t kn);
 uint32_t ref_open(uint32_t level, const uint8_t *key, size_t keyn, const uint8_t *c, size_t cn,

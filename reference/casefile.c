@@ -10,8 +10,9 @@ static const struct {
     unsigned ins, outs, numbers;
 } shapes[ENTRIES] = {
     [SHAKE256] = {1, 1, 0}, [SHA3_384] = {1, 1, 0},    [PRODUCT] = {2, 1, 0},  [INVERSE] = {1, 1, 0},
-    [ERROR_OF] = {1, 2, 1}, [DECODE] = {2, 2, 0},      [MAKE_KEY] = {1, 2, 2}, [WRAP] = {2, 2, 0},
+    [ERROR_OF] = {1, 2, 1}, [DECODE] = {2, 2, 0},      [MAKE_KEY] = {1, 2, 4}, [WRAP] = {2, 2, 0},
     [OPEN] = {2, 1, 0},     [READ_RECORD] = {1, 0, 3}, [PACK_KEY] = {1, 1, 0}, [UNPACK_KEY] = {1, 1, 0},
+    [FAIR_POLYNOMIAL] = {1, 1, 2},
 };
 
 unsigned case_ins(uint32_t entry)
@@ -27,6 +28,11 @@ unsigned case_outs(uint32_t entry)
 unsigned case_numbers(uint32_t entry)
 {
     return shapes[entry].numbers;
+}
+
+size_t case_unit(uint32_t entry)
+{
+    return entry == FAIR_POLYNOMIAL ? 4 : 1;
 }
 
 static bool read_number(FILE *file, uint32_t *number)
@@ -56,7 +62,8 @@ enum reading case_read(FILE *file, struct test_case *c)
     if (entry < 1 || entry >= ENTRIES || !read_number(file, &c->level))
         return CASE_BAD;
     for (unsigned i = 0; i < case_ins(c->entry); i++)
-        if (!read_length(file, &c->in[i].n) || fread(c->in[i].bytes, 1, c->in[i].n, file) != c->in[i].n)
+        if (!read_length(file, &c->in[i].n) || c->in[i].n % case_unit(c->entry) != 0
+            || fread(c->in[i].bytes, 1, c->in[i].n, file) != c->in[i].n)
             return CASE_BAD;
     for (unsigned i = 0; i < case_outs(c->entry); i++)
         if (!read_length(file, &c->out[i]))
@@ -92,6 +99,26 @@ static uint32_t read_record(const uint8_t *bytes, size_t n, uint32_t numbers[3])
     return answer;
 }
 
+/* Memory of exactly n bytes, so that a sanitizer sees every step beyond it. */
+static void *exactly(size_t n)
+{
+    void *bytes = malloc(n);
+    if (bytes == NULL && n > 0)
+        refuse("case", "out of memory", "");
+    return bytes;
+}
+
+static uint32_t fair_polynomial(const struct test_case *c, const uint8_t *bytes, uint8_t *out, uint32_t numbers[2])
+{
+    uint32_t *words = exactly(c->in[0].n);
+    size_t n = c->in[0].n / 4;
+    for (size_t i = 0; i < n; i++)
+        words[i] = little_endian(bytes + 4 * i, 4);
+    uint32_t answer = ref_fair_polynomial(c->level, words, n, out, c->out[0], numbers);
+    free(words);
+    return answer;
+}
+
 static uint32_t call(const struct test_case *c, uint8_t *const in[2], uint8_t *const out[2],
                      uint32_t numbers[NUMBERS_MAX])
 {
@@ -111,17 +138,9 @@ static uint32_t call(const struct test_case *c, uint8_t *const in[2], uint8_t *c
     case OPEN: return ref_open(c->level, a, an, b, bn, x, xn);
     case PACK_KEY: return ref_pack_key(c->level, a, an, x, xn);
     case UNPACK_KEY: return ref_unpack_key(c->level, a, an, x, xn);
+    case FAIR_POLYNOMIAL: return fair_polynomial(c, a, x, numbers);
     default: return read_record(a, an, numbers);
     }
-}
-
-/* Memory of exactly n bytes, so that a sanitizer sees every step beyond it. */
-static uint8_t *exactly(size_t n)
-{
-    uint8_t *bytes = malloc(n);
-    if (bytes == NULL && n > 0)
-        refuse("case", "out of memory", "");
-    return bytes;
 }
 
 void case_run(const struct test_case *c, struct result *result)

@@ -2,7 +2,8 @@
  *
  * A case is the entry (1 byte), the level (4 bytes, little-endian, like all lengths), each input buffer (its length,
  * then its bytes) and each output buffer's length. It is answered by a line: ordinal, entry, answer, each output in hex
- * (- if empty) and the numbers that the entry reports. The last line is `end N`. */
+ * (- if empty) and the numbers that the entry reports. The last line is `end N`. Of a fair polynomial the input is
+ * words, four bytes each, little-endian; a length that 4 does not divide makes a bad case. */
 #ifndef REF_CASEFILE_H
 #define REF_CASEFILE_H
 
@@ -13,10 +14,10 @@
 
 #include "bike.h"
 
-enum { BUFFER_MAX = 16384, CASES_MAX = 65536, NUMBERS_MAX = 3 };
+enum { BUFFER_MAX = 16384, CASES_MAX = 65536, NUMBERS_MAX = 4 };
 
 enum entry { SHAKE256 = 1, SHA3_384, PRODUCT, INVERSE, ERROR_OF, DECODE, MAKE_KEY, WRAP, OPEN, READ_RECORD,
-             PACK_KEY, UNPACK_KEY, ENTRIES };
+             PACK_KEY, UNPACK_KEY, FAIR_POLYNOMIAL, ENTRIES };
 
 struct buffer {
     size_t n;
@@ -32,12 +33,16 @@ struct test_case {
 struct result {
     uint32_t answer;
     struct buffer out[2];
-    uint32_t numbers[NUMBERS_MAX]; /* H: replaced; key making: of h0, of h1; record: level, thing, body length */
+    /* H: replaced positions; fair polynomial: words used, passed over; key making: those of h0, of h1;
+     * record: level, thing, body length */
+    uint32_t numbers[NUMBERS_MAX];
 };
 
 unsigned case_ins(uint32_t entry);
 unsigned case_outs(uint32_t entry);
 unsigned case_numbers(uint32_t entry);
+/* The bytes that stand together in an input: 4 where it is words, else 1. */
+size_t case_unit(uint32_t entry);
 
 enum reading { CASE_READ, CASE_END, CASE_BAD };
 enum reading case_read(FILE *file, struct test_case *c);

@@ -414,7 +414,7 @@ static void committed_counts(struct source *g, const struct level *v)
     emit_error_of(v, m);
 }
 
-/* A refusal reports 0, whatever the message or the seed would replace. */
+/* A refusal reports 0, whatever the message or the seed would report. */
 static void emit_refused(struct test_case c)
 {
     c.out[1]++;
@@ -429,7 +429,7 @@ static void committed_key_counts(struct source *g, const struct level *v)
     struct test_case c;
     uint8_t seed[SEED_BYTES], m[SHORT_BYTES];
     for (size_t i = 0; i < sizeof halves / sizeof halves[0]; i++) {
-        seed_replacing(g, v, halves[i][0], halves[i][1], seed);
+        seed_repeating(g, v, halves[i][0], halves[i][1], seed);
         case_make_key(&c, v, seed);
         emit(&c);
     }
@@ -467,6 +467,87 @@ static void committed_old_lengths(struct source *g, const struct level *v)
             c.out[1] -= SHORT_BYTES;
         emit(&c);
     }
+}
+
+static void emit_fair(const struct level *v, const uint32_t words[], uint32_t n)
+{
+    struct test_case c;
+    case_fair(&c, v, words, n);
+    emit(&c);
+}
+
+/* Words from `start` on, each of them listed. */
+static void listed_words(struct source *g, const struct level *v, uint32_t words[], uint32_t start, uint32_t end)
+{
+    for (uint32_t i = start; i < end; i++)
+        word_after(g, v, true, words, i);
+}
+
+/* No words, one too few, just enough, the most, one more, and the most that a case can have. */
+static void committed_words(struct source *g, const struct level *v)
+{
+    enum { ALL = BUFFER_MAX / 4 };
+    const uint32_t numbers[] = {0, v->d - 1, v->d, WORDS_MAX, WORDS_MAX + 1, ALL};
+    uint32_t words[ALL];
+    listed_words(g, v, words, 0, v->d);
+    for (uint32_t i = v->d; i < ALL; i++)
+        words[i] = source_word(g);
+    for (size_t i = 0; i < sizeof numbers / sizeof numbers[0]; i++)
+        if (in_full(v) || numbers[i] != ALL)
+            emit_fair(v, words, numbers[i]);
+}
+
+/* The last of n words completes the list or is passed over; the words between repeat the first. */
+static void emit_last(struct source *g, const struct level *v, bool completes, uint32_t n)
+{
+    uint32_t words[WORDS_MAX];
+    listed_words(g, v, words, 0, v->d - 1);
+    for (uint32_t i = v->d - 1; i < n - 1; i++)
+        words[i] = words[0];
+    word_after(g, v, completes, words, n - 1);
+    emit_fair(v, words, n);
+}
+
+static void committed_last(struct source *g, const struct level *v)
+{
+    uint32_t words[WORDS_MAX];
+    for (int completes = 0; completes < 2; completes++) {
+        emit_last(g, v, completes, v->d + 1);
+        emit_last(g, v, completes, WORDS_MAX);
+    }
+    for (uint32_t i = 0; i < WORDS_MAX; i++)
+        words[i] = v->r / 2; /* all equal */
+    emit_fair(v, words, WORDS_MAX);
+}
+
+/* r is passed over, r - 1 and 0 are listed: with no high bit set, then with all of them. */
+static void committed_edges(struct source *g, const struct level *v)
+{
+    uint32_t words[D_MAX + 1] = {v->r, v->r - 1, 0};
+    listed_words(g, v, words, 3, v->d + 1);
+    for (uint32_t i = 0; i <= v->d; i++)
+        words[i] &= v->mask;
+    emit_fair(v, words, v->d + 1);
+    for (uint32_t i = 0; i <= v->d; i++)
+        words[i] |= ~v->mask;
+    emit_fair(v, words, v->d + 1);
+}
+
+/* Words of which some are passed over; each wrong length of the output; refusals at once, the smallest number first. */
+static void committed_fair(struct source *g, const struct level *v)
+{
+    struct test_case c;
+    ordinary_case(&c, g, FAIR_POLYNOMIAL, v);
+    emit(&c);
+    for (int how = EMPTY; how < BAD_LENGTHS; how++) {
+        ordinary_case(&c, g, FAIR_POLYNOMIAL, v);
+        damage_length(&c, g, 1, (enum bad_length)how);
+        emit(&c);
+    }
+    c.in[0].n = 4;
+    emit(&c); /* 2 before 10 */
+    c.level += 256;
+    emit(&c); /* 1 before both */
 }
 
 /* What is added comes last, so that the cases before it keep their bytes and their ordinals. */
@@ -509,5 +590,12 @@ void committed(void)
     for (uint32_t level = 1; level <= 3; level += 2) {
         committed_bound(&g, level_of(level));
         committed_old_lengths(&g, level_of(level));
+    }
+    for (uint32_t level = 1; level <= 3; level += 2) {
+        const struct level *v = level_of(level);
+        committed_fair(&g, v);
+        committed_words(&g, v);
+        committed_last(&g, v);
+        committed_edges(&g, v);
     }
 }

@@ -21,11 +21,16 @@ void source_bytes(struct source *g, uint8_t *out, size_t n)
     sponge_squeeze(&g->stream, out, n);
 }
 
-uint32_t source_below(struct source *g, uint32_t end)
+uint32_t source_word(struct source *g)
 {
     uint8_t b[4];
     source_bytes(g, b, 4);
-    return (uint32_t)((uint64_t)little_endian(b, 4) * end >> 32);
+    return little_endian(b, 4);
+}
+
+uint32_t source_below(struct source *g, uint32_t end)
+{
+    return (uint32_t)((uint64_t)source_word(g) * end >> 32);
 }
 
 struct poly random_poly(struct source *g, const struct level *v)
@@ -134,13 +139,21 @@ void message_miscounted(struct source *g, const struct level *v, int reading, ui
     } while (right == other);
 }
 
-void seed_replacing(struct source *g, const struct level *v, uint32_t replaced0, uint32_t replaced1, uint8_t *seed)
+void seed_repeating(struct source *g, const struct level *v, uint32_t again0, uint32_t again1, uint8_t *seed)
 {
-    uint32_t replaced[2];
+    struct drawn drawn[2];
     do {
         source_bytes(g, seed, SEED_BYTES);
-        key_of_seed(v, seed, replaced);
-    } while (replaced[0] != replaced0 || replaced[1] != replaced1);
+        key_of_seed(v, seed, drawn);
+    } while (drawn[0].again != again0 || drawn[1].again != again1);
+}
+
+void word_after(struct source *g, const struct level *v, bool is_listed, uint32_t words[], uint32_t n)
+{
+    uint32_t before = draw(v, words, n).listed;
+    do
+        words[n] = source_word(g);
+    while ((draw(v, words, n + 1).listed > before) != is_listed);
 }
 
 void random_error(struct source *g, const struct level *v, uint32_t weight, struct poly e[2])
@@ -177,6 +190,12 @@ static void put_bytes(struct buffer *b, const uint8_t *bytes, size_t n)
 {
     memcpy(b->bytes, bytes, n);
     b->n = n;
+}
+
+static void put_number(uint8_t *bytes, uint32_t number)
+{
+    for (int i = 0; i < 4; i++)
+        bytes[i] = (uint8_t)(number >> 8 * i);
 }
 
 static void put_poly(struct buffer *b, const struct level *v, const struct poly *a)
@@ -237,6 +256,15 @@ void case_make_key(struct test_case *c, const struct level *v, const uint8_t *se
     c->out[1] = private_key_bytes(v);
 }
 
+void case_fair(struct test_case *c, const struct level *v, const uint32_t words[], uint32_t n)
+{
+    start_case(c, FAIR_POLYNOMIAL, v->number);
+    for (uint32_t i = 0; i < n; i++)
+        put_number(c->in[0].bytes + 4 * i, words[i]);
+    c->in[0].n = 4 * n;
+    c->out[0] = polynomial_bytes(v);
+}
+
 void case_wrap(struct test_case *c, const struct level *v, const struct poly *h, const uint8_t *m)
 {
     start_case(c, WRAP, v->number);
@@ -279,8 +307,7 @@ void case_record(struct test_case *c, struct source *g, uint32_t body, uint32_t 
 {
     start_case(c, READ_RECORD, 0);
     uint8_t *bytes = c->in[0].bytes;
-    for (int i = 0; i < 4; i++)
-        bytes[i] = (uint8_t)(body >> 8 * i);
+    put_number(bytes, body);
     bytes[4] = (uint8_t)kind;
     bytes[5] = (uint8_t)(kind >> 8);
     source_bytes(g, bytes + 6, n);
@@ -374,6 +401,15 @@ void opening_case(struct test_case *c, struct source *g, const struct level *v, 
     case_open(c, v, key, ciphertext);
 }
 
+/* Words enough for one polynomial. */
+static void fair_case(struct test_case *c, struct source *g, const struct level *v)
+{
+    uint32_t words[2 * D_MAX];
+    for (uint32_t i = 0; i < 2 * v->d; i++)
+        words[i] = source_word(g);
+    case_fair(c, v, words, 2 * v->d);
+}
+
 /* An ordinary case of an entry that takes a private key. */
 static void key_case(struct test_case *c, struct source *g, uint32_t entry, const struct level *v)
 {
@@ -396,6 +432,7 @@ void ordinary_case(struct test_case *c, struct source *g, uint32_t entry, const 
     case ERROR_OF: case_error_of(c, v, seed); break;
     case DECODE: case_decode_numbered(c, v, PLAIN, v->t, source_below(g, UINT32_MAX)); break;
     case MAKE_KEY: case_make_key(c, v, seed); break;
+    case FAIR_POLYNOMIAL: fair_case(c, g, v); break;
     case WRAP: case_wrap(c, v, &a, seed); break;
     default: key_case(c, g, entry, v); break;
     }
@@ -425,11 +462,11 @@ void damage_length(struct test_case *c, struct source *g, unsigned buffer, enum 
 {
     bool is_input = buffer < case_ins(c->entry);
     size_t *n = is_input ? &c->in[buffer].n : &c->out[buffer - case_ins(c->entry)];
-    size_t old = *n;
+    size_t old = *n, unit = is_input ? case_unit(c->entry) : 1;
     switch (how) {
     case EMPTY: *n = 0; break;
-    case ONE_LESS: *n = old > 0 ? old - 1 : 1; break;
-    case ONE_MORE: *n = old + 1; break;
+    case ONE_LESS: *n = old > 0 ? old - unit : unit; break;
+    case ONE_MORE: *n = old + unit; break;
     default: *n = other_length(c->level, old); break;
     }
     if (is_input && *n > old)

@@ -18,6 +18,7 @@ struct source {
 
 struct source source_of(const char *label);
 void source_bytes(struct source *g, uint8_t *out, size_t n);
+uint32_t source_word(struct source *g);
 uint32_t source_below(struct source *g, uint32_t end);
 
 struct poly random_poly(struct source *g, const struct level *v);
@@ -36,8 +37,10 @@ void message_bound(struct source *g, const struct level *v, const uint8_t *diges
 void digest_of_poly(const struct level *v, const struct poly *h, uint8_t *digest);
 /* A message whose replaced positions a wrong reading counts otherwise. */
 void message_miscounted(struct source *g, const struct level *v, int reading, uint8_t *m);
-/* A seed whose halves replace so many positions. */
-void seed_replacing(struct source *g, const struct level *v, uint32_t replaced0, uint32_t replaced1, uint8_t *seed);
+/* A seed whose halves draw a listed position again so many times. */
+void seed_repeating(struct source *g, const struct level *v, uint32_t again0, uint32_t again1, uint8_t *seed);
+/* Word n, which is listed after the n before it, or is passed over. */
+void word_after(struct source *g, const struct level *v, bool is_listed, uint32_t words[], uint32_t n);
 void random_error(struct source *g, const struct level *v, uint32_t weight, struct poly e[2]);
 
 /* A ciphertext with c0·h0 = syndrome and c1 = m xor L(e). */
@@ -51,6 +54,7 @@ void case_inverse(struct test_case *c, const struct level *v, const struct poly 
 void case_error_of(struct test_case *c, const struct level *v, const uint8_t *m);
 void case_decode(struct test_case *c, const struct level *v, const struct key *key, const struct poly *syndrome);
 void case_make_key(struct test_case *c, const struct level *v, const uint8_t *seed);
+void case_fair(struct test_case *c, const struct level *v, const uint32_t words[], uint32_t n);
 void case_wrap(struct test_case *c, const struct level *v, const struct poly *h, const uint8_t *m);
 void case_open(struct test_case *c, const struct level *v, const struct key *key, const uint8_t *ciphertext);
 /* Another D in a case's private key. */

@@ -67,6 +67,32 @@ static void random_ring(struct test_case *c, struct source *g, uint32_t entry, c
         case_inverse(c, v, &factors[0]);
 }
 
+/* A word whose position is often listed already, one near r, or any. */
+static uint32_t random_word(struct source *g, const struct level *v)
+{
+    uint32_t any = source_word(g), high = any & ~v->mask;
+    switch (source_below(g, 4)) {
+    case 0: return high | source_below(g, 2 * v->d);
+    case 1: return high | (v->r - 2 + source_below(g, 4));
+    default: return any;
+    }
+}
+
+/* As many words as are just enough or too few, near the most, or any number. */
+static void random_fair(struct test_case *c, struct source *g, const struct level *v)
+{
+    uint32_t words[2 * WORDS_MAX], n = source_below(g, 2 * WORDS_MAX);
+    switch (source_below(g, 4)) {
+    case 0: n = v->d - 1 + source_below(g, 2 * v->d); break;
+    case 1: n = WORDS_MAX - 1 + source_below(g, 3); break;
+    case 2: n = source_below(g, WORDS_MAX); break;
+    default: break;
+    }
+    for (uint32_t i = 0; i < n; i++)
+        words[i] = random_word(g, v);
+    case_fair(c, v, words, n);
+}
+
 static void random_wrap(struct test_case *c, struct source *g, const struct level *v)
 {
     uint8_t m[SHORT_BYTES];
@@ -126,6 +152,7 @@ void random_case_of(struct test_case *c, struct source *g, uint32_t entry)
     case INVERSE: random_ring(c, g, entry, v); break;
     case DECODE: random_decode(c, g, v); break;
     case WRAP: random_wrap(c, g, v); break;
+    case FAIR_POLYNOMIAL: random_fair(c, g, v); break;
     case OPEN: random_open(c, g, v); break;
     case READ_RECORD: random_record(c, g); break;
     default: ordinary_case(c, g, entry, v); break;

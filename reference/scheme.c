@@ -1,4 +1,4 @@
-/* The level table, the byte layouts, the sampler and the hash functions H, L, K, D and f. */
+/* The level table, the byte layouts, the two samplers and the hash functions H, L, K, D and f. */
 #include "scheme.h"
 
 #include <string.h>
@@ -7,8 +7,8 @@
 #include "wrong.h"
 
 static const struct level levels[] = {
-    {1, 12323, 71, 134, 69722, 135300000, 10000000, 36},
-    {3, 24659, 103, 199, 52650, 152588000, 10000000, 52},
+    {1, 12323, 71, 134, 69722, 135300000, 10000000, 36, 0x3fff},
+    {3, 24659, 103, 199, 52650, 152588000, 10000000, 52, 0x7fff},
 };
 
 const struct level *level_of(uint32_t number)
@@ -168,18 +168,41 @@ uint32_t sample(uint32_t len, uint32_t wt, const uint32_t s[], uint32_t list[])
     return count_of(wt, list, again, replaced);
 }
 
-/* The next wt words of a stream, sampled. */
-static uint32_t sample_stream(struct sponge *stream, uint32_t len, uint32_t wt, uint32_t list[])
+/* The position of a word in the fair sampler. */
+static uint32_t masked(const struct level *v, uint32_t word)
 {
-    uint32_t s[T_MAX];
-    for (uint32_t i = 0; i < wt; i++) {
-        uint8_t b[4];
-        sponge_squeeze(stream, b, 4);
-        s[i] = little_endian(b, 4);
-        if (wrong(W_BIG_ENDIAN_WORDS))
-            s[i] = s[i] >> 24 | (s[i] >> 8 & 0xff00) | (s[i] << 8 & 0xff0000) | s[i] << 24;
+    if (wrong(W_NO_MASK))
+        return word;
+    if (wrong(W_MODULO_R))
+        return word % v->r;
+    return word & (wrong(W_WIDER_MASK) ? 2 * v->mask + 1 : v->mask);
+}
+
+/* Algorithm 1 of source 001: until d positions are listed, a word's position is listed if it is below r and new. */
+struct drawn draw(const struct level *v, const uint32_t words[], size_t n)
+{
+    struct drawn drawn = {0};
+    uint32_t end = wrong(W_R_TAKEN) ? v->r + 1 : v->r;
+    while (drawn.used < n && drawn.listed < v->d) {
+        uint32_t pos = masked(v, words[drawn.used++]);
+        bool again = listed(drawn.list, drawn.listed, pos);
+        if (again && wrong(W_DRAWN_REPLACED)) {
+            pos = v->d - 1 - drawn.listed;
+            again = false;
+        }
+        if (pos >= end)
+            drawn.large++;
+        else if (again)
+            drawn.again++;
+        else
+            drawn.list[drawn.listed++] = pos;
     }
-    return sample(len, wt, s, list);
+    return drawn;
+}
+
+bool ran_out(const struct level *v, const struct drawn *drawn)
+{
+    return drawn->listed < v->d;
 }
 
 static void start_stream(struct sponge *stream, const uint8_t *seed, size_t n)
@@ -187,6 +210,17 @@ static void start_stream(struct sponge *stream, const uint8_t *seed, size_t n)
     shake256_start(stream);
     sponge_absorb(stream, seed, n);
     shake256_finish(stream);
+}
+
+static void squeeze_words(struct sponge *stream, bool big_endian, uint32_t words[], uint32_t n)
+{
+    for (uint32_t i = 0; i < n; i++) {
+        uint8_t b[4];
+        sponge_squeeze(stream, b, 4);
+        words[i] = little_endian(b, 4);
+        if (big_endian)
+            words[i] = words[i] >> 24 | (words[i] >> 8 & 0xff00) | (words[i] << 8 & 0xff0000) | words[i] << 24;
+    }
 }
 
 static void sort(uint32_t list[], uint32_t n)
@@ -199,15 +233,23 @@ static void sort(uint32_t list[], uint32_t n)
         }
 }
 
-struct key key_of_seed(const struct level *v, const uint8_t *seed, uint32_t replaced[2])
+/* The word at which h1 begins: the one after h0's last. */
+static uint32_t h1_start(const struct drawn *h0)
+{
+    return wrong(W_H1_FROM_512) ? WORDS_MAX : wrong(W_H1_SAME_WORDS) ? 0 : h0->used;
+}
+
+struct key key_of_seed(const struct level *v, const uint8_t *seed, struct drawn drawn[2])
 {
     struct key key;
     struct sponge stream;
+    uint32_t words[2 * WORDS_MAX];
     start_stream(&stream, seed, wrong(W_WHOLE_SEED) ? SEED_BYTES : 32);
+    squeeze_words(&stream, wrong(W_BIG_ENDIAN_DRAWN), words, 2 * WORDS_MAX);
+    drawn[0] = draw(v, words, WORDS_MAX);
+    drawn[1] = draw(v, words + h1_start(&drawn[0]), WORDS_MAX);
     for (int half = 0; half < 2; half++) {
-        if (wrong(W_H1_SAME_BYTES))
-            start_stream(&stream, seed, 32);
-        replaced[half] = sample_stream(&stream, v->r, v->d, key.h[half]);
+        memcpy(key.h[half], drawn[half].list, sizeof key.h[half]);
         if (!wrong(W_UNSORTED))
             sort(key.h[half], v->d);
     }
@@ -217,10 +259,11 @@ struct key key_of_seed(const struct level *v, const uint8_t *seed, uint32_t repl
 
 uint32_t hash_H(const struct level *v, const uint8_t *m, struct poly e[2])
 {
-    uint32_t list[T_MAX];
+    uint32_t s[T_MAX], list[T_MAX];
     struct sponge stream;
     start_stream(&stream, m, SHORT_BYTES);
-    uint32_t replaced = sample_stream(&stream, 2 * v->r, v->t, list);
+    squeeze_words(&stream, wrong(W_BIG_ENDIAN_WORDS), s, v->t);
+    uint32_t replaced = sample(2 * v->r, v->t, s, list);
     e[0] = e[1] = poly_zero();
     for (uint32_t i = 0; i < v->t; i++) {
         bool first = list[i] < v->r;

@@ -1,4 +1,4 @@
-/* The level table, the byte layouts, the sampler and the hash functions H, L, K, D and f. */
+/* The level table, the byte layouts, the two samplers and the hash functions H, L, K, D and f. */
 #ifndef REF_SCHEME_H
 #define REF_SCHEME_H
 
@@ -9,12 +9,14 @@
 #include "ring.h"
 
 enum { D_MAX = 103, T_MAX = 199, SHORT_BYTES = 32, SEED_BYTES = 64, DIGEST_MAX = 48 };
+enum { WORDS_MAX = 512 }; /* that a polynomial may use */
 enum { POLYNOMIAL_MAX = (R_MAX + 7) / 8, PRIVATE_KEY_MAX = 4 * D_MAX + SHORT_BYTES + DIGEST_MAX };
 
 struct level {
     uint32_t number, r, d, t;
     uint64_t slope, offset, divisor; /* of the threshold */
     uint32_t least;                  /* threshold */
+    uint32_t mask;                   /* of a word, in the fair sampler */
 };
 
 const struct level *level_of(uint32_t number); /* NULL: no such level */
@@ -37,8 +39,18 @@ struct poly key_half(const struct level *v, const struct key *key, int half);
 bool key_public(const struct level *v, const struct key *key, struct poly *h);
 /* e0·h0 + e1·h1 */
 struct poly syndrome_of(const struct level *v, const struct key *key, const struct poly e[2]);
-/* With the number of replaced positions of each half. */
-struct key key_of_seed(const struct level *v, const uint8_t *seed, uint32_t replaced[2]);
+
+/* What one polynomial's positions are drawn as, in the order of listing. */
+struct drawn {
+    uint32_t listed, used;
+    uint32_t large, again; /* of the used words, those passed over: too large, or listed already */
+    uint32_t list[D_MAX];
+};
+
+struct drawn draw(const struct level *v, const uint32_t words[], size_t n);
+bool ran_out(const struct level *v, const struct drawn *drawn);
+/* With what each half is drawn as; all but D. */
+struct key key_of_seed(const struct level *v, const uint8_t *seed, struct drawn drawn[2]);
 
 uint32_t little_endian(const uint8_t *bytes, size_t n);
 

@@ -59,6 +59,18 @@ static void check_sample(uint32_t s1, uint32_t s0, uint32_t first, uint32_t seco
     check(list[0] == first && list[1] == second && count == replaced, what);
 }
 
+/* Source 001's Algorithm 1 with r = 5, d = 2 and a mask of three bits. */
+static void drawn_examples(void)
+{
+    const struct level v = {.r = 5, .d = 2, .mask = 7};
+    const uint32_t enough[] = {6, 3, 3, 1, 0}, few[] = {3, 11, 6};
+    struct drawn drawn = draw(&v, enough, 5);
+    check(!ran_out(&v, &drawn) && drawn.list[0] == 3 && drawn.list[1] == 1, "6, 3, 3, 1, 0 give 3, 1");
+    check(drawn.used == 4 && drawn.large + drawn.again == 2, "4 words used, 2 of them passed over");
+    drawn = draw(&v, few, 3);
+    check(ran_out(&v, &drawn) && drawn.used == 3, "3, 11, 6 run out, 3 used");
+}
+
 static void check_threshold(uint32_t level, uint32_t S, uint32_t T, const char *what)
 {
     check(threshold(level_of(level), S) == T, what);
@@ -261,12 +273,12 @@ static void round_trip(const struct level *v, unsigned number)
     uint8_t seed[SEED_BYTES], m[SHORT_BYTES], k[SHORT_BYTES], opened[SHORT_BYTES];
     uint8_t pub[POLYNOMIAL_MAX], priv[PRIVATE_KEY_MAX], c[POLYNOMIAL_MAX + SHORT_BYTES];
     size_t pubn = polynomial_bytes(v), privn = private_key_bytes(v), cn = ciphertext_bytes(v);
-    uint32_t replaced[2];
+    uint32_t numbers[4];
     snprintf(label, sizeof label, "round trip %u", number);
     struct source g = source_of(label);
     source_bytes(&g, seed, sizeof seed);
     source_bytes(&g, m, sizeof m);
-    check(ref_make_key(v->number, seed, sizeof seed, pub, pubn, priv, privn, replaced) == 0, "key made");
+    check(ref_make_key(v->number, seed, sizeof seed, pub, pubn, priv, privn, numbers) == 0, "key made");
     check(ref_wrap(v->number, pub, pubn, m, sizeof m, c, cn, k, sizeof k) == 0, "message wrapped");
     check(ref_open(v->number, priv, privn, c, cn, opened, sizeof opened) == 0, "ciphertext opened");
     check(memcmp(k, opened, sizeof k) == 0, "opening gives wrapping's key");
@@ -285,6 +297,7 @@ int main(int argc, char **argv)
     if (argc != 1 && argc != 3)
         refuse(program, "two files or none are wanted; see --help", "");
     proved_examples();
+    drawn_examples();
     known_digests();
     run_examples();
     record_example();

@@ -18,10 +18,10 @@
     X(MODULO, "sampler: the word modulo len - i") \
     X(BIG_ENDIAN_WORDS, "sampler: words big-endian") \
     X(E_EXCHANGED, "H: e0 and e1 exchanged") \
-    X(H1_SAME_BYTES, "key making: h1 from the first 4d bytes again") \
+    X(H1_SAME_WORDS, "key making: h1 from word 0 again") \
     X(WHOLE_SEED, "key making: SHAKE256 of all 64 bytes of the seed") \
     X(SIGMA_FIRST, "key making: sigma is the seed's first half") \
-    X(UNSORTED, "key making: positions in the sampler's order") \
+    X(UNSORTED, "key making: positions in the order of listing") \
     X(H0_OVER_H1, "key making: h = h0 / h1") \
     X(BIG_ENDIAN_KEY, "private key: positions big-endian") \
     X(ALWAYS_INVERSE, "inverse: never refused with 5") \
@@ -102,8 +102,8 @@
     X(UNPACK_LARGE, "unpacking: positions from r on are taken") \
     X(COUNT_EQUAL, "sampler: each step that appends i is counted") \
     X(COUNT_POSITIONS, "sampler: a position that is drawn again is counted once") \
-    X(COUNTS_EXCHANGED, "key making: h1's number first") \
-    X(COUNTS_ADDED, "key making: one number for both halves") \
+    X(COUNTS_EXCHANGED, "key making: h1's numbers first") \
+    X(COUNTS_ADDED, "key making: the halves' numbers added up") \
     X(COUNTS_KEPT, "numbers are reported after a refusal too") \
     X(F_D_FIRST, "f over D, then m") \
     X(D_TRUNCATED, "D over the public key without its last byte") \
@@ -116,7 +116,21 @@
     X(OPEN_OWN_D, "opening takes D from the key's own public key") \
     X(D_BEFORE_SIGMA, "private key: D before sigma") \
     X(PACK_D_LAST, "packed key: D last") \
-    X(OLD_LENGTHS, "private keys without D are taken, in records too")
+    X(OLD_LENGTHS, "private keys without D are taken, in records too") \
+    X(NO_MASK, "fair sampler: words as they are, no mask") \
+    X(WIDER_MASK, "fair sampler: a mask one bit wider") \
+    X(MODULO_R, "fair sampler: modulo r in place of a mask") \
+    X(R_TAKEN, "fair sampler: position r is taken") \
+    X(DRAWN_REPLACED, "fair sampler: i stands in for a listed position, as in the other sampler") \
+    X(H1_FROM_512, "key making: h1 from word 512") \
+    X(BIG_ENDIAN_DRAWN, "key making: words big-endian") \
+    X(LISTED_UNCOUNTED, "fair sampler: passed over without the words whose position is listed") \
+    X(LARGE_UNCOUNTED, "fair sampler: passed over without the words that are too large") \
+    X(USED_ALL, "fair sampler: used counted to the end of the words") \
+    X(PASSED_FIRST, "fair sampler: passed over told before used") \
+    X(TEN_COUNTS, "numbers are reported after 10") \
+    X(TEN_BEFORE_TWO, "fair polynomial: 10 before 2") \
+    X(ANY_WORDS, "fair polynomial: more than 512 words are taken")
 
 #define WRONG_NAME(name, text) W_##name,
 enum { W_NONE, WRONG_READINGS(WRONG_NAME) W_COUNT };
