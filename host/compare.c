@@ -92,7 +92,7 @@ static const char *difference(const struct test_case *c, struct outcome *got, st
 /* The report's length, in one of eight calls a wrong one. */
 static size_t report_length(struct source *g)
 {
-    static const size_t lengths[] = {0, 4, 7, 9};
+    static const size_t lengths[] = {0, 8, 15, 17};
     return source_below(g, 8) == 0 ? lengths[source_below(g, 4)] : BIKE_REPORT_BYTES;
 }
 

@@ -35,6 +35,7 @@ static const char *in_words(uint32_t answer)
         [BIKE_BAD_PAD] = "a bit is set that must be 0",
         [BIKE_BAD_POSITION] = "the private key is no key",
         [BIKE_NO_INVERSE] = "this seed gives no key",
+        [BIKE_NO_WORDS] = "this seed's words ran out, another is needed",
     };
     return words[answer];
 }
@@ -75,8 +76,9 @@ static void make(struct controller *kart)
     bike_wipe_stack();
     say_answer(kart->name, "makes its key pair", answer);
     must(answer == BIKE_DONE, "no key");
-    printf("  %-18s replaced positions: %lu in h0, %lu in h1\n", kart->name,
-           (unsigned long)bike_reported(report, 0), (unsigned long)bike_reported(report, 1));
+    for (size_t half = 0; half < 2; half++)
+        printf("  %-18s words drawn for h%lu: %lu, passed over: %lu\n", kart->name, (unsigned long)half,
+               (unsigned long)bike_reported(report, 2 * half), (unsigned long)bike_reported(report, 2 * half + 1));
 }
 
 static uint32_t wrap(struct app *app, const uint8_t *scanned, const char *what)

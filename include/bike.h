@@ -6,10 +6,11 @@
  *
  * Answers. A call gives one number. After BIKE_DONE every output holds its value. Any other number is a refusal, and then every
  * byte of every output is zero, at the length that was lent, right or wrong: no earlier content is left. The smallest number that
- * applies is given; after BIKE_NO_LEVEL nothing else is looked at.
+ * applies is given, but BIKE_NO_WORDS before BIKE_NO_INVERSE; after BIKE_NO_LEVEL nothing else is looked at.
  *
  * Older keys. A private key ends with a digest of its public key. Keys made before it had one are 32 bytes shorter and
  * are refused with BIKE_BAD_LENGTH: make a new pair. A ciphertext of that time opens to a key that nobody else has.
+ * Key making draws positions otherwise than it once did: an old seed gives another pair, the pair it gave stays good.
  *
  * Secrets. Seeds and messages come from the caller's random source: a seed for each key pair, a message for each wrapping, none
  * of them twice. Seed, private key, message and session key are secret; public key and ciphertext are not. docs/SECURITY.md says what
@@ -31,7 +32,7 @@ enum {
     BIKE_SEED_BYTES = 64,
     BIKE_MESSAGE_BYTES = 32,
     BIKE_SESSION_KEY_BYTES = 32,
-    BIKE_REPORT_BYTES = 8,
+    BIKE_REPORT_BYTES = 16,
     BIKE_STACK_BYTES = 512 * 1024,
 
     BIKE_LEVEL_1 = 1,
@@ -51,12 +52,13 @@ enum {
     BIKE_BAD_LENGTH = 2,   /* a buffer, input or output, has a wrong length */
     BIKE_BAD_PAD = 3,      /* the public key or the ciphertext has one of the 5 upper bits of byte 1540 (3082) set */
     BIKE_BAD_POSITION = 4, /* a position in the private key is too large, or not larger than the one before it */
-    BIKE_NO_INVERSE = 5    /* the seed gives no key pair: take another */
+    BIKE_NO_INVERSE = 5,   /* the seed gives no key pair: take another seed */
+    BIKE_NO_WORDS = 10     /* the seed's words ran out before the key had its positions: take another seed */
 };
 
-/* Makes the key pair that the seed determines. Gives 0, 1, 2 or 5. The report has two numbers: how many positions of h0
- * and of h1 the sampler replaced because they were listed already. Before there was a report this function had two
- * parameters fewer: callers that were compiled with that header must be compiled anew. */
+/* Makes the key pair that the seed determines. Gives 0, 1, 2, 10 or 5, looked for in this order. The report has four
+ * numbers: how many words were drawn for h0 and how many of these were passed over, then both for h1. It had 8 bytes
+ * once, and before that there was none: callers that were compiled with an older header must be compiled anew. */
 uint32_t bike_make_key(uint32_t level, const uint8_t *seed, size_t seed_bytes,
                        uint8_t *public_key, size_t public_key_bytes,
                        uint8_t *private_key, size_t private_key_bytes,
