@@ -21,7 +21,7 @@ ghost use Rattle.exchange.specs.Fair.{mostWords, maskOf, taken, ranOut, 
 pub const MOST_WORDS: usize = 512;
 
 // Room for the positions of the largest level.
-pub fn no_positions() -> [u32; MOST_D]
+fn no_positions() -> [u32; MOST_D]
     ensures { λ r. ⌜ mostD ≡ length r ⌝ }
 {
     [0; MOST_D]

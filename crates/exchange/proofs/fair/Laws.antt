@@ -1,6 +1,6 @@
 -- Drawing: what a run of words that are passed over leaves, and a word that is taken; what is listed in the end. Assumes nothing.
 use mathlib.Core.Path.{_≡_, refl, sym, ap, _∙_}
-use mathlib.Core.Bool.{Bool, true, false, not, _&&_, _||_, and-false, or-true, false≢true}
+use mathlib.Core.Bool.{Bool, true, false, not, _&&_, and-false, or-true, false≢true}
 use mathlib.Core.List.{List, [], _∷_, _++_}
 use mathlib.Core.Logic.{⊎-elim}
 use Prim.Native.Nat.{ℕ, zero, suc, _+_, _-_, _≤_, _<_, zero-le}
@@ -9,15 +9,15 @@ use native.Mathlib.Numerals.{add-one}
 use native.Mathlib.Omega.{arith}
 use lib.Bits.{bitAnd}
 use lib.Dec.{ltb, eqb}
-use lib.ListN.{length, getD, set, take, drop, length-append, length-drop}
+use lib.ListN.{length, getD, set, take, drop, length-append}
 use lib.Seq.{drop-cons, drop-length, take-suc-set, length-take-le}
 use borrow.Author.Tests.{lt-ltb, le-ltb, ltb-true, eq-eqb, eqb-true}
 use Rattle.ring.specs.Levels.{Level}
 use Rattle.ring.specs.Polynomials.{listed}
-use Rattle.ring.proofs.Bools.{both-true, one-true}
+use Rattle.ring.proofs.Bools.{one-true}
 use Rattle.ring.proofs.Upper.{Distinct}
 use Rattle.exchange.specs.Fair.{Drawn, maskOf, taken, drawOne, drawOn, draw, drawnFor}
-use Rattle.exchange.proofs.sampler.Laws.{listed-snoc, distinct-snoc, distinct-weight}
+use Rattle.exchange.proofs.sampler.Laws.{listed-snoc, distinct-snoc}
 
 -- a position is passed over where it is not below r or is listed, and else taken
 module _ (r pos : ℕ) (list : List ℕ) where

@@ -1,5 +1,5 @@
 -- `bike_make_key` gives what key making gives, and the report's bytes.
-use mathlib.Core.Path.{_≡_, sym, _∙_}
+use mathlib.Core.Path.{sym, _∙_}
 use borrow.Author.Needs.{needs}
 use Rattle.hashing.proofs.Answers.{refused, first-stays, first-after}
 use Rattle.exchange.specs.Doors.{make-key-door-says}

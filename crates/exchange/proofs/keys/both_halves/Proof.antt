@@ -2,7 +2,7 @@
 use mathlib.Core.Path.{_≡_, sym, ap, ap₂, _∙_}
 use mathlib.Core.Bool.{_||_}
 use mathlib.Core.List.{List}
-use Prim.Native.Nat.{ℕ, _+_, _-_, _*_, _≤_}
+use Prim.Native.Nat.{ℕ, _+_, _-_, _≤_}
 use native.Mathlib.Nat.{le-of-eq}
 use native.Mathlib.Omega.{arith}
 use lib.ListN.{length, take, drop, length-drop}
@@ -12,7 +12,7 @@ use Rattle.hashing.proofs.sponge.Squeezing.{shake256-length}
 use Rattle.ring.specs.Bytes.{numbers}
 use Rattle.ring.specs.Levels.{levelOf}
 use Rattle.ring.proofs.little_endian.Laws.{numbers-length}
-use Rattle.exchange.specs.Fair.{mostWords, drawnFor}
+use Rattle.exchange.specs.Fair.{mostWords}
 use Rattle.exchange.specs.Scheme.{keyWords, keyStream, h0Drawn, h1Drawn, h0Of, h1Of, keyRanOut}
 use Rattle.exchange.proofs.fair.Laws.{fair-used}
 use Rattle.exchange.proofs.keys.both_halves.Statement.{statement}

@@ -1,6 +1,5 @@
 -- `stream` squeezes its bytes from the first 32 of the seed.
 use mathlib.Core.Path.{sym}
-use native.Mathlib.Omega.{arith}
 use lib.Seq.{length-take-le}
 use borrow.Author.Needs.{needs}
 use Rattle.hashing.specs.Sponge.{shake256}
