@@ -8,6 +8,7 @@ use native.Mathlib.Decide.{decLt}
 use native.Mathlib.Omega.{arith}
 use lib.Arith.{digits-mod}
 use lib.ListN.{length, replicate, length-append, replicate-append-replicate}
+use Rattle.hashing.specs.Kmac.{cshakeSuffix}
 use Rattle.hashing.specs.Lists.{tab, bitAt}
 use Rattle.hashing.specs.Sponge.{padding, padded, bitsOf, pad10*1, shakeSuffix, sha3Suffix}
 
@@ -86,3 +87,8 @@ pub sha3-384-padding : (M : List ℕ) → bitsOf (padded 104 0x06 M)
     ≡ (bitsOf M ++ sha3Suffix) ++ pad10*1 832 (length (bitsOf M ++ sha3Suffix))
 unfolding sha3Suffix tab bitAt
 sha3-384-padding = padded-bits sha3Suffix 0x06 (omega arith) refl refl 104 (omega arith)
+
+pub kmac256-padding : (M : List ℕ) → bitsOf (padded 136 0x04 M)
+    ≡ (bitsOf M ++ cshakeSuffix) ++ pad10*1 1088 (length (bitsOf M ++ cshakeSuffix))
+unfolding cshakeSuffix tab bitAt
+kmac256-padding = padded-bits cshakeSuffix 0x04 (omega arith) refl refl 136 (omega arith)

@@ -1,6 +1,7 @@
 // SHAKE256 and SHA3-384 of FIPS 202.
 pub mod fill;
 pub mod keccak;
+pub mod kmac;
 pub mod refuse;
 pub mod sponge;
 
