@@ -142,6 +142,11 @@ void sha3_384_finish(struct sponge *s)
     finish(s, wrong(W_SHA3_NO_SUFFIX) ? 0x01 : 0x06); /* 01 and 1 */
 }
 
+void cshake256_finish(struct sponge *s)
+{
+    finish(s, 0x04); /* SP 800-185, 3.3: 00 and 1 */
+}
+
 void sponge_squeeze(struct sponge *s, uint8_t *out, size_t n)
 {
     for (size_t i = 0; i < n; i++) {

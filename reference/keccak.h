@@ -18,6 +18,7 @@ void sha3_384_start(struct sponge *s);
 void sponge_absorb(struct sponge *s, const uint8_t *bytes, size_t n);
 void shake256_finish(struct sponge *s);
 void sha3_384_finish(struct sponge *s);
+void cshake256_finish(struct sponge *s);
 void sponge_squeeze(struct sponge *s, uint8_t *out, size_t n);
 
 #endif

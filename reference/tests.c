@@ -7,6 +7,7 @@
 #include "decoder.h"
 #include "generator.h"
 #include "keccak.h"
+#include "kmac.h"
 #include "packing.h"
 #include "ring.h"
 #include "scheme.h"
@@ -146,22 +147,38 @@ static uint8_t *room(size_t n)
     return bytes;
 }
 
-/* One vector: function (1 SHAKE256, 2 SHA3-384), message length, digest length, message; its digest is a hex line. */
+enum { HEAD_BYTES = 9, KEYED_HEAD_BYTES = 17 };
+
+/* A vector's function (1 SHAKE256, 2 SHA3-384, 3 KMAC256), lengths of message and digest, and with KMAC256 of key and
+ * customization; `all` is what follows: key, customization, message. */
+static bool vector_digest(const uint8_t *head, const uint8_t *all, uint8_t *digest, size_t n)
+{
+    size_t mn = little_endian(head + 1, 4), kn = little_endian(head + 9, 4), cn = little_endian(head + 13, 4);
+    if (head[0] == 1)
+        return ref_shake256(all, mn, digest, n) == 0;
+    if (head[0] == 2)
+        return ref_sha3_384(all, mn, digest, n) == 0;
+    kmac256(all, kn, all + kn, cn, all + kn + cn, mn, digest, n);
+    return head[0] == 3;
+}
+
+/* One vector, and its digest as a hex line. */
 static bool next_vector(FILE *vectors, FILE *digests)
 {
-    uint8_t head[9];
-    size_t got = fread(head, 1, sizeof head, vectors);
+    uint8_t head[KEYED_HEAD_BYTES] = {0};
+    size_t got = fread(head, 1, HEAD_BYTES, vectors);
     if (got == 0)
         return false;
-    size_t mn = little_endian(head + 1, 4), dn = little_endian(head + 5, 4);
-    uint8_t *message = room(mn), *digest = room(dn);
+    bool whole = got == HEAD_BYTES
+                 && (head[0] != 3 || fread(head + got, 1, KEYED_HEAD_BYTES - got, vectors) == KEYED_HEAD_BYTES - got);
+    size_t n = little_endian(head + 1, 4) + little_endian(head + 9, 4) + little_endian(head + 13, 4);
+    size_t dn = little_endian(head + 5, 4);
+    uint8_t *all = room(n), *digest = room(dn);
     char *line = (char *)room(2 * dn + 2);
-    bool whole = got == sizeof head && fread(message, 1, mn, vectors) == mn
-                 && fgets(line, (int)(2 * dn + 2), digests) != NULL;
+    whole = whole && fread(all, 1, n, vectors) == n && fgets(line, (int)(2 * dn + 2), digests) != NULL;
     line[whole ? strcspn(line, "\n") : 0] = '\0';
-    uint32_t answer = (head[0] == 1 ? ref_shake256 : ref_sha3_384)(message, mn, digest, dn);
-    check(whole && answer == 0 && is_hex(digest, dn, line), "published vector");
-    free(message);
+    check(whole && vector_digest(head, all, digest, dn) && is_hex(digest, dn, line), "published vector");
+    free(all);
     free(digest);
     free(line);
     return whole;
