@@ -1,48 +1,97 @@
-// The published vectors of SHAKE256 and SHA3-384, through the proved library: a digest in hex a line.
+// The published vectors of SHAKE256, SHA3-384 and KMAC256, through the proved library: a digest in hex a line.
 //
-// Standard input is a sequence of vectors: the function (1 byte: 1 is SHAKE256, 2 is SHA3-384), the
-// lengths of message and digest (4 bytes each, little-endian), then the message. Anything else, or
-// a vector that the input cuts short, ends the run with the line "bad vector".
+// Standard input is a sequence of vectors: the function (1 byte: 1 is SHAKE256, 2 is SHA3-384, 3 is
+// KMAC256), the lengths of message and digest (4 bytes each, little-endian), then the message. With
+// KMAC256 the lengths of key and customization follow those two, and both stand before the message.
+// Anything else, or a vector that the input cuts short, ends the run with the line "bad vector".
 use libc::STDIN_FILENO;
 use libc::STDOUT_FILENO;
 use lines::Number;
 use lines::read_number;
 
-// The digest of the message, at the digest's length. False where there is no such function, or it
-// refuses the length.
-fn hash(function: u8, message: &[u8], digest: &mut [u8]) -> bool {
+// A vector's function, and the lengths of the key and the customization that stand before its message.
+struct Kind {
+    function: u8,
+    key: usize,
+    custom: usize,
+}
+
+// KMAC256 is there for lengths below 8,192 bytes.
+fn keyed(key: usize, custom: usize, all: &[u8], digest: &mut [u8]) -> bool {
+    if key >= 8192 {
+        return false;
+    }
+    if custom >= 8192 {
+        return false;
+    }
+    if digest.len() >= 8192 {
+        return false;
+    }
+    let from = key + custom;
+    if all.len() < from {
+        return false;
+    }
+    hashing::kmac::kmac256(&all[..key], &all[from..], &all[key..from], digest);
+    true
+}
+
+// The digest of a vector's bytes, at the digest's length. False where there is no such function, or
+// it refuses a length.
+fn hash(kind: Kind, all: &[u8], digest: &mut [u8]) -> bool {
+    let function = kind.function;
     match function {
-        1 => hashing::shake256(message, digest) == 0,
-        2 => hashing::sha3_384(message, digest) == 0,
+        1 => hashing::shake256(all, digest) == 0,
+        2 => hashing::sha3_384(all, digest) == 0,
+        3 => keyed(kind.key, kind.custom, all, digest),
         _ => false,
     }
 }
 
-// Reads a message that fills its buffer, and writes its digest, which fills the other.
-fn answer(function: u8, message: &mut [u8], digest: &mut [u8]) -> bool {
-    if io::read_full(STDIN_FILENO, message) < message.len() {
+// Reads what fills the first buffer, and writes its digest, which fills the other.
+fn answer(kind: Kind, all: &mut [u8], digest: &mut [u8]) -> bool {
+    if io::read_full(STDIN_FILENO, all) < all.len() {
         return false;
     }
-    if !hash(function, message, digest) {
+    if !hash(kind, all, digest) {
         return false;
     }
     lines::print_hex(digest);
     io::write_all(STDOUT_FILENO, b"\n")
 }
 
-fn vector(function: u8, size: usize, room: usize) -> bool {
-    let mut message = io::large_buffer();
+fn vector(kind: Kind, size: usize, room: usize) -> bool {
+    let mut all = io::large_buffer();
     let mut digest = io::buffer();
-    if message.len() < size {
+    if all.len() < size {
         return false;
     }
     if digest.len() < room {
         return false;
     }
-    answer(function, &mut message[..size], &mut digest[..room])
+    answer(kind, &mut all[..size], &mut digest[..room])
 }
 
-// The two lengths of a vector, and what follows.
+// KMAC256's two further lengths, and what follows.
+fn keyed_rest(size: u32, room: u32) -> bool {
+    let Number::Is(key) = read_number() else {
+        return false;
+    };
+    let Number::Is(custom) = read_number() else {
+        return false;
+    };
+    let kind = Kind {
+        function: 3,
+        key: key as usize,
+        custom: custom as usize,
+    };
+    vector(
+        kind,
+        key as usize + custom as usize + size as usize,
+        room as usize,
+    )
+}
+
+// The lengths of a vector, and what follows.
 fn rest(function: u8) -> bool {
     let Number::Is(size) = read_number() else {
         return false;
@@ -50,7 +99,15 @@ fn rest(function: u8) -> bool {
     let Number::Is(room) = read_number() else {
         return false;
     };
-    vector(function, size as usize, room as usize)
+    if function == 3 {
+        return keyed_rest(size, room);
+    }
+    let kind = Kind {
+        function,
+        key: 0,
+        custom: 0,
+    };
+    vector(kind, size as usize, room as usize)
 }
 
 // Whether there was a good vector, so that another may follow.
