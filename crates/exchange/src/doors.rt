@@ -10,7 +10,7 @@ ghost use lib.ListN.{length};
 ghost use Rattle.exchange.specs.Promises.{countsOf, WrapPromise, OpenPromise};
 ghost use Rattle.exchange.specs.Doors.{fourBytes, reportOf, reportBytes, MakeKeyDoorPromise};
 
-fn four_bytes(n: u32) -> [u8; 4]
+pub fn four_bytes(n: u32) -> [u8; 4]
     ensures { λ b. ⌜ b ≡ fourBytes n ⌝ }
 {
     [

@@ -1,0 +1,4 @@
+pub mod Keeping
+pub mod Promises
+pub mod Session
+pub mod Writes
