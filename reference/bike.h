@@ -47,4 +47,11 @@ uint32_t ref_read_record(const uint8_t *bytes, size_t n, struct ref_record *reco
 uint32_t ref_pack_key(uint32_t level, const uint8_t *key, size_t keyn, uint8_t *packed, size_t packedn);
 uint32_t ref_unpack_key(uint32_t level, const uint8_t *packed, size_t packedn, uint8_t *key, size_t keyn);
 
+/* 11 the tag is not right; 12 the kart is another; 13 the counter is not above the last one. A refused acceptance
+ * changes nothing. */
+uint32_t ref_map_write(uint32_t level, const uint8_t *key, size_t keyn, uint32_t kart, uint32_t counter,
+                       const uint8_t *map, size_t mapn, uint8_t *record, size_t recordn);
+uint32_t ref_map_accept(uint32_t level, const uint8_t *key, size_t keyn, uint32_t kart, const uint8_t *record, size_t n,
+                        uint8_t *stored, size_t storedn, uint32_t *last);
+
 #endif

@@ -6,13 +6,15 @@
 
 #include "scheme.h"
 
+/* A number that is no entry's has no inputs. */
 static const struct {
-    unsigned ins, outs, numbers;
+    unsigned given, ins, outs, numbers;
 } shapes[ENTRIES] = {
-    [SHAKE256] = {1, 1, 0}, [SHA3_384] = {1, 1, 0},    [PRODUCT] = {2, 1, 0},  [INVERSE] = {1, 1, 0},
-    [ERROR_OF] = {1, 2, 1}, [DECODE] = {2, 2, 0},      [MAKE_KEY] = {1, 2, 4}, [WRAP] = {2, 2, 0},
-    [OPEN] = {2, 1, 0},     [READ_RECORD] = {1, 0, 3}, [PACK_KEY] = {1, 1, 0}, [UNPACK_KEY] = {1, 1, 0},
-    [FAIR_POLYNOMIAL] = {1, 1, 2},
+    [SHAKE256] = {0, 1, 1, 0},        [SHA3_384] = {0, 1, 1, 0},    [PRODUCT] = {0, 2, 1, 0},
+    [INVERSE] = {0, 1, 1, 0},         [ERROR_OF] = {0, 1, 2, 1},    [DECODE] = {0, 2, 2, 0},
+    [MAKE_KEY] = {0, 1, 2, 4},        [WRAP] = {0, 2, 2, 0},        [OPEN] = {0, 2, 1, 0},
+    [READ_RECORD] = {0, 1, 0, 3},     [PACK_KEY] = {0, 1, 1, 0},    [UNPACK_KEY] = {0, 1, 1, 0},
+    [FAIR_POLYNOMIAL] = {0, 1, 1, 2}, [WRITE_MAP] = {2, 2, 1, 0},   [ACCEPT_MAP] = {2, 3, 0, 1},
 };
 
 unsigned case_ins(uint32_t entry)
@@ -33,6 +35,12 @@ unsigned case_numbers(uint32_t entry)
 size_t case_unit(uint32_t entry)
 {
     return entry == FAIR_POLYNOMIAL ? 4 : 1;
+}
+
+/* What a line shows in hex: the outputs, or the stored map. */
+static unsigned case_shown(uint32_t entry)
+{
+    return entry == ACCEPT_MAP ? 1 : case_outs(entry);
 }
 
 static bool read_number(FILE *file, uint32_t *number)
@@ -59,8 +67,11 @@ enum reading case_read(FILE *file, struct test_case *c)
     if (entry == EOF)
         return CASE_END;
     c->entry = (uint32_t)entry;
-    if (entry < 1 || entry >= ENTRIES || !read_number(file, &c->level))
+    if (entry >= ENTRIES || case_ins(c->entry) == 0 || !read_number(file, &c->level))
         return CASE_BAD;
+    for (unsigned i = 0; i < shapes[c->entry].given; i++)
+        if (!read_number(file, &c->given[i]))
+            return CASE_BAD;
     for (unsigned i = 0; i < case_ins(c->entry); i++)
         if (!read_length(file, &c->in[i].n) || c->in[i].n % case_unit(c->entry) != 0
             || fread(c->in[i].bytes, 1, c->in[i].n, file) != c->in[i].n)
@@ -81,6 +92,8 @@ void case_write(FILE *file, const struct test_case *c)
 {
     putc((int)c->entry, file);
     write_number(file, c->level);
+    for (unsigned i = 0; i < shapes[c->entry].given; i++)
+        write_number(file, c->given[i]);
     for (unsigned i = 0; i < case_ins(c->entry); i++) {
         write_number(file, c->in[i].n);
         fwrite(c->in[i].bytes, 1, c->in[i].n, file);
@@ -119,7 +132,7 @@ static uint32_t fair_polynomial(const struct test_case *c, const uint8_t *bytes,
     return answer;
 }
 
-static uint32_t call(const struct test_case *c, uint8_t *const in[2], uint8_t *const out[2],
+static uint32_t call(const struct test_case *c, uint8_t *const in[3], uint8_t *const out[2],
                      uint32_t numbers[NUMBERS_MAX])
 {
     const uint8_t *a = in[0], *b = in[1];
@@ -139,13 +152,24 @@ static uint32_t call(const struct test_case *c, uint8_t *const in[2], uint8_t *c
     case PACK_KEY: return ref_pack_key(c->level, a, an, x, xn);
     case UNPACK_KEY: return ref_unpack_key(c->level, a, an, x, xn);
     case FAIR_POLYNOMIAL: return fair_polynomial(c, a, x, numbers);
+    case WRITE_MAP: return ref_map_write(c->level, a, an, c->given[0], c->given[1], b, bn, x, xn);
+    case ACCEPT_MAP:
+        numbers[0] = c->given[1];
+        return ref_map_accept(c->level, a, an, c->given[0], b, bn, in[2], c->in[2].n, numbers);
     default: return read_record(a, an, numbers);
     }
 }
 
+static void keep(struct buffer *b, const uint8_t *bytes, size_t n)
+{
+    b->n = n;
+    for (size_t k = 0; k < n; k++)
+        b->bytes[k] = bytes[k];
+}
+
 void case_run(const struct test_case *c, struct result *result)
 {
-    uint8_t *in[2] = {NULL, NULL}, *out[2] = {NULL, NULL};
+    uint8_t *in[3] = {NULL, NULL, NULL}, *out[2] = {NULL, NULL};
     for (unsigned i = 0; i < case_ins(c->entry); i++) {
         in[i] = exactly(c->in[i].n);
         for (size_t k = 0; k < c->in[i].n; k++)
@@ -157,15 +181,14 @@ void case_run(const struct test_case *c, struct result *result)
             out[i][k] = 0xa5;
     }
     result->answer = call(c, in, out, result->numbers);
-    for (unsigned i = 0; i < case_outs(c->entry); i++) {
-        result->out[i].n = c->out[i];
-        for (size_t k = 0; k < c->out[i]; k++)
-            result->out[i].bytes[k] = out[i][k];
-    }
-    for (int i = 0; i < 2; i++) {
+    for (unsigned i = 0; i < case_outs(c->entry); i++)
+        keep(&result->out[i], out[i], c->out[i]);
+    if (c->entry == ACCEPT_MAP)
+        keep(&result->out[0], in[2], c->in[2].n);
+    for (int i = 0; i < 3; i++)
         free(in[i]);
+    for (int i = 0; i < 2; i++)
         free(out[i]);
-    }
 }
 
 bool case_same(const struct test_case *c, const struct result *a, const struct result *b)
@@ -175,8 +198,8 @@ bool case_same(const struct test_case *c, const struct result *a, const struct r
     for (unsigned i = 0; i < case_numbers(c->entry); i++)
         if (a->numbers[i] != b->numbers[i])
             return false;
-    for (unsigned i = 0; i < case_outs(c->entry); i++)
-        if (memcmp(a->out[i].bytes, b->out[i].bytes, c->out[i]) != 0)
+    for (unsigned i = 0; i < case_shown(c->entry); i++)
+        if (memcmp(a->out[i].bytes, b->out[i].bytes, a->out[i].n) != 0)
             return false;
     return true;
 }
@@ -193,7 +216,7 @@ static void print_hex(FILE *file, const struct buffer *b)
 void case_print(FILE *file, unsigned long ordinal, const struct test_case *c, const struct result *result)
 {
     fprintf(file, "%lu %lu %lu", ordinal, (unsigned long)c->entry, (unsigned long)result->answer);
-    for (unsigned i = 0; i < case_outs(c->entry); i++)
+    for (unsigned i = 0; i < case_shown(c->entry); i++)
         print_hex(file, &result->out[i]);
     for (unsigned i = 0; i < case_numbers(c->entry); i++)
         fprintf(file, " %lu", (unsigned long)result->numbers[i]);

@@ -1,9 +1,10 @@
 /* Case files: a case drives one entry with buffers of any length.
  *
- * A case is the entry (1 byte), the level (4 bytes, little-endian, like all lengths), each input buffer (its length,
- * then its bytes) and each output buffer's length. It is answered by a line: ordinal, entry, answer, each output in hex
- * (- if empty) and the numbers that the entry reports. The last line is `end N`. Of a fair polynomial the input is
- * words, four bytes each, little-endian; a length that 4 does not divide makes a bad case. */
+ * A case is the entry (1 byte), the level (4 bytes, little-endian, like all numbers), the numbers that are given, each
+ * input buffer (its length, then its bytes) and each output buffer's length. It is answered by a line: ordinal, entry,
+ * answer, each output, or the map that an acceptance keeps, in hex (- if empty) and the numbers that the entry reports.
+ * The last line is `end N`. Of a fair polynomial the input is words, four bytes each, little-endian; a length that 4
+ * does not divide makes a bad case. */
 #ifndef REF_CASEFILE_H
 #define REF_CASEFILE_H
 
@@ -17,7 +18,7 @@
 enum { BUFFER_MAX = 16384, CASES_MAX = 65536, NUMBERS_MAX = 4 };
 
 enum entry { SHAKE256 = 1, SHA3_384, PRODUCT, INVERSE, ERROR_OF, DECODE, MAKE_KEY, WRAP, OPEN, READ_RECORD,
-             PACK_KEY, UNPACK_KEY, FAIR_POLYNOMIAL, ENTRIES };
+             PACK_KEY, UNPACK_KEY, FAIR_POLYNOMIAL, WRITE_MAP, ACCEPT_MAP, ENTRIES };
 
 struct buffer {
     size_t n;
@@ -26,15 +27,16 @@ struct buffer {
 
 struct test_case {
     uint32_t entry, level;
-    struct buffer in[2];
+    uint32_t given[2]; /* kart, and counter or last counter */
+    struct buffer in[3];
     size_t out[2]; /* lengths */
 };
 
 struct result {
     uint32_t answer;
-    struct buffer out[2];
+    struct buffer out[2]; /* of an acceptance: the map that it keeps */
     /* H: replaced positions; fair polynomial: words used, passed over; key making: those of h0, of h1;
-     * record: level, thing, body length */
+     * record: level, thing, body length; acceptance: the counter that it keeps */
     uint32_t numbers[NUMBERS_MAX];
 };
 

@@ -96,10 +96,12 @@ int main(int argc, char **argv)
     unsigned long count = fixed ? 0 : number_of(program, argv[2], CASES_MAX);
     to.cases = create(argv[argc - 2]);
     to.expected = create(argv[argc - 1]);
-    if (fixed)
+    if (fixed) {
         committed();
-    else
+        committed_maps();
+    } else {
         random_cases(argv[1], count);
+    }
     fprintf(to.expected, "end %lu\n", to.count);
     close_file(to.cases, argv[argc - 2]);
     close_file(to.expected, argv[argc - 1]);

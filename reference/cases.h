@@ -7,6 +7,8 @@
 /* Writes a case and the line that answers it. */
 void emit(const struct test_case *c);
 
+/* The fixed set of document 01, and of the map write after it. */
 void committed(void);
+void committed_maps(void);
 
 #endif

@@ -314,6 +314,36 @@ void case_record(struct test_case *c, struct source *g, uint32_t body, uint32_t 
     c->in[0].n = 6 + n;
 }
 
+enum { MAP_BYTES = 256, MAP_RECORD_BYTES = 302 };
+
+void case_write_map(struct test_case *c, struct source *g, const struct level *v, uint32_t kart, uint32_t counter)
+{
+    start_case(c, WRITE_MAP, v->number);
+    c->given[0] = kart;
+    c->given[1] = counter;
+    c->in[0].n = SHORT_BYTES;
+    source_bytes(g, c->in[0].bytes, SHORT_BYTES);
+    c->in[1].n = MAP_BYTES;
+    source_bytes(g, c->in[1].bytes, MAP_BYTES);
+    c->out[0] = MAP_RECORD_BYTES;
+}
+
+void case_accept_map(struct test_case *c, struct source *g, const struct level *v, uint32_t kart, uint32_t counter,
+                     uint32_t last)
+{
+    uint8_t map[MAP_BYTES];
+    case_write_map(c, g, v, kart, counter);
+    memcpy(map, c->in[1].bytes, MAP_BYTES);
+    c->entry = ACCEPT_MAP;
+    c->given[1] = last;
+    c->out[0] = 0;
+    c->in[1].n = MAP_RECORD_BYTES;
+    ref_map_write(v->number, c->in[0].bytes, SHORT_BYTES, kart, counter, map, MAP_BYTES, c->in[1].bytes,
+                  MAP_RECORD_BYTES);
+    c->in[2].n = MAP_BYTES;
+    source_bytes(g, c->in[2].bytes, MAP_BYTES);
+}
+
 size_t thing_bytes(const struct level *v, uint32_t thing)
 {
     const size_t bytes[] = {0, SEED_BYTES, polynomial_bytes(v), private_key_bytes(v), ciphertext_bytes(v),

@@ -64,6 +64,11 @@ void case_unpack_key(struct test_case *c, const struct level *v, const struct ke
 /* A record whose head says `body` and `kind`, followed by n random bytes. */
 void case_record(struct test_case *c, struct source *g, uint32_t body, uint32_t kind, size_t n);
 size_t thing_bytes(const struct level *v, uint32_t thing);
+/* A random map under a random session key; and its record at a controller with that key, that kart number and another
+ * map. */
+void case_write_map(struct test_case *c, struct source *g, const struct level *v, uint32_t kart, uint32_t counter);
+void case_accept_map(struct test_case *c, struct source *g, const struct level *v, uint32_t kart, uint32_t counter,
+                     uint32_t last);
 
 /* Decoder cases: a random error; with one stray bit in the syndrome; under a key whose positions stand close together;
  * at so many of each half's own positions; under a key of a window. Numbered, so that a search can find those that

@@ -2,6 +2,7 @@
 #include "kmac.h"
 
 #include "keccak.h"
+#include "wrong.h"
 
 /* 2.3.1: x in as few bytes as hold it, one at least, the highest first; gives their number. */
 static uint8_t in_bytes(uint64_t x, uint8_t bytes[8])
@@ -59,7 +60,7 @@ void kmac256(const uint8_t *key, size_t key_n, const uint8_t *custom, size_t cus
     encode_string(&s, key, key_n);
     end_block(&s);
     sponge_absorb(&s, message, message_n);
-    right_encode(&s, 8 * (uint64_t)n);
+    right_encode(&s, wrong(W_MAP_KMACXOF) ? 0 : 8 * (uint64_t)n);
     cshake256_finish(&s);
     sponge_squeeze(&s, out, n);
 }

@@ -114,6 +114,34 @@ static void random_open(struct test_case *c, struct source *g, const struct leve
         set_digest(c, foreign);
 }
 
+/* Numbers that often meet: small ones, and those with one bit set. */
+static uint32_t meeting_number(struct source *g)
+{
+    uint32_t bit = source_below(g, 32), small = source_below(g, 4);
+    return source_below(g, 3) == 0 ? 1u << bit : small;
+}
+
+static void random_writing(struct test_case *c, struct source *g, const struct level *v)
+{
+    uint32_t kart = meeting_number(g), counter = meeting_number(g);
+    case_write_map(c, g, v, kart, counter);
+}
+
+/* One in three for another kart, with a damaged record, or with bytes after it. */
+static void random_acceptance(struct test_case *c, struct source *g, const struct level *v)
+{
+    uint32_t kart = meeting_number(g), counter = meeting_number(g), last = meeting_number(g);
+    case_accept_map(c, g, v, kart, counter, last);
+    if (source_below(g, 3) == 0)
+        c->given[0] = meeting_number(g);
+    if (source_below(g, 3) == 0)
+        c->in[1].bytes[source_below(g, (uint32_t)c->in[1].n)] ^= (uint8_t)(1u << source_below(g, 8));
+    if (source_below(g, 3) == 0)
+        c->in[1].n += source_below(g, 40);
+    if (source_below(g, 8) == 0)
+        c->in[1].n = source_below(g, 302);
+}
+
 static void damage_key(struct test_case *c, struct source *g)
 {
     const struct level *v = level_of(c->level);
@@ -155,6 +183,8 @@ void random_case_of(struct test_case *c, struct source *g, uint32_t entry)
     case FAIR_POLYNOMIAL: random_fair(c, g, v); break;
     case OPEN: random_open(c, g, v); break;
     case READ_RECORD: random_record(c, g); break;
+    case WRITE_MAP: random_writing(c, g, v); break;
+    case ACCEPT_MAP: random_acceptance(c, g, v); break;
     default: ordinary_case(c, g, entry, v); break;
     }
     if (entry != READ_RECORD && source_below(g, 3) == 0)

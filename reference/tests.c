@@ -131,6 +131,19 @@ static void known_digests(void)
           "SHA3-384 of abc");
 }
 
+/* Level 1, session key 00..1f, kart 1, counter 2, a map of zeros; worked out with OpenSSL. */
+static void known_tag(void)
+{
+    static const uint8_t map[256];
+    uint8_t key[SHORT_BYTES], record[302];
+    for (int i = 0; i < SHORT_BYTES; i++)
+        key[i] = (uint8_t)i;
+    check(ref_map_write(1, key, sizeof key, 1, 2, map, sizeof map, record, sizeof record) == 0, "map written");
+    check(is_hex(record, 14, "2801000007010100000002000000"), "a map record's head");
+    check(is_hex(record + 270, 32, "00736908d7d7e63216c80f10770dbe297e3264bd5cdc65a04e64379e86a15589"),
+          "a map record's tag");
+}
+
 static FILE *open_file(const char *path)
 {
     FILE *file = fopen(path, "rb");
@@ -316,6 +329,7 @@ int main(int argc, char **argv)
     proved_examples();
     drawn_examples();
     known_digests();
+    known_tag();
     run_examples();
     record_example();
     for (uint32_t level = 1; level <= 3; level += 2) {

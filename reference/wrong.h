@@ -1,5 +1,6 @@
 /* Wrong readings of the rules, each one plausible. ref_wrong is 0 in every ordinary run; a test sets it to a number of
- * this list to switch that one reading on, and so learns whether a case file tells it from the right one. */
+ * this list to switch that one reading on, and so learns whether a case file tells it from the right one. A reading's
+ * number is its place in the list, from 1 on: a request adds its own at the end, in the order of landing. */
 #ifndef REF_WRONG_H
 #define REF_WRONG_H
 
@@ -130,7 +131,22 @@
     X(PASSED_FIRST, "fair sampler: passed over told before used") \
     X(TEN_COUNTS, "numbers are reported after 10") \
     X(TEN_BEFORE_TWO, "fair polynomial: 10 before 2") \
-    X(ANY_WORDS, "fair polynomial: more than 512 words are taken")
+    X(ANY_WORDS, "fair polynomial: more than 512 words are taken") \
+    X(MAP_BODY_ALONE, "map: the tag covers the body alone") \
+    X(MAP_KMACXOF, "map: the tag is KMACXOF256") \
+    X(MAP_NO_CUSTOM, "map: the tag has no customization") \
+    X(MAP_OVER_TAG, "map: the tag covers its own place too") \
+    X(MAP_BIG_ENDIAN_KART, "map: kart number big-endian") \
+    X(MAP_BIG_ENDIAN_COUNTER, "map: counter big-endian") \
+    X(MAP_EQUAL_COUNTER, "map: a counter equal to the last one is taken") \
+    X(MAP_SIGNED, "map: counters are signed") \
+    X(MAP_KART_FIRST, "map: 12 before 11") \
+    X(MAP_COUNTER_FIRST, "map: 13 before 12") \
+    X(MAP_OTHER_LEVEL, "map: thing 7 at another level is taken") \
+    X(MAP_ZEROED, "map: a refusal zeroes the stored map") \
+    X(MAP_HALF_WRITTEN, "map: the stored map is half written before the tag is looked at") \
+    X(MAP_COUNTER_MOVES, "map: the counter moves with a refusal") \
+    X(MAP_EXACT, "map: a longer record is refused")
 
 #define WRONG_NAME(name, text) W_##name,
 enum { W_NONE, WRONG_READINGS(WRONG_NAME) W_COUNT };
