@@ -1,4 +1,4 @@
-// One case: its buffers are read one after the other, the entry is called, and the line is printed.
+// One case: its numbers and buffers are read one after the other, the entry is called, and the line is printed.
 use crate::buffer::MOST;
 use crate::buffer::blank;
 use crate::buffer::mark;
@@ -9,18 +9,36 @@ use exchange::record::Reading;
 use exchange::record::Thing;
 use libc::STDOUT_FILENO;
 
-// How many inputs and outputs an entry has; no inputs where the number is no entry's.
+// What stands before the buffers. An entry without numbers of its own has zeros for them.
+pub struct Case {
+    pub ordinal: u64,
+    pub number: u8,
+    pub level: u32,
+    pub first: u32,
+    pub second: u32,
+}
+
+// Whether an entry has numbers: a kart number, and a counter.
+pub fn numbers(number: u8) -> bool {
+    match number {
+        14 | 15 => true,
+        _ => false,
+    }
+}
+
+// How many inputs and outputs an entry has; no inputs where the number is no entry's. A stored map is an output that is
+// read before.
 fn inputs(number: u8) -> u8 {
     match number {
         1 | 2 | 4 | 5 | 7 | 10 | 11 | 12 | 13 => 1,
-        3 | 6 | 8 | 9 => 2,
+        3 | 6 | 8 | 9 | 14 | 15 => 2,
         _ => 0,
     }
 }
 
 fn outputs(number: u8) -> u8 {
     match number {
-        1 | 2 | 3 | 4 | 9 | 11 | 12 | 13 => 1,
+        1 | 2 | 3 | 4 | 9 | 11 | 12 | 13 | 14 | 15 => 1,
         5 | 6 | 7 | 8 => 2,
         _ => 0,
     }
@@ -76,7 +94,14 @@ fn fair_polynomial(level: u32, bytes: &[u8], out: &mut [u8]) -> Said {
     told(counted.answer, 2, counted.used, counted.passed)
 }
 
-fn called(number: u8, level: u32, a: &[u8], b: &[u8], out0: &mut [u8], out1: &mut [u8]) -> Said {
+fn accept_map(case: Case, session_key: &[u8], bytes: &[u8], map: &mut [u8]) -> Said {
+    let accepted = maps::accept_map(case.level, session_key, case.first, bytes, map, case.second);
+    told(accepted.answer, 1, accepted.counter, 0)
+}
+
+fn called(case: Case, a: &[u8], b: &[u8], out0: &mut [u8], out1: &mut [u8]) -> Said {
+    let level = case.level;
+    let number = case.number;
     match number {
         1 => silent(hashing::shake256(a, out0)),
         2 => silent(hashing::sha3_384(a, out0)),
@@ -89,7 +114,9 @@ fn called(number: u8, level: u32, a: &[u8], b: &[u8], out0: &mut [u8], out1: &mu
         9 => silent(exchange::open(level, a, b, out0)),
         11 => silent(packing::pack(level, a, out0)),
         12 => silent(packing::unpack(level, a, out0)),
-        _ => fair_polynomial(level, a, out0),
+        13 => fair_polynomial(level, a, out0),
+        14 => silent(maps::write_map(level, a, case.first, case.second, b, out0)),
+        _ => accept_map(case, a, b, out0),
     }
 }
 
@@ -145,13 +172,12 @@ fn print_number(reported: u8, i: u8, number: u32) {
 }
 
 // The answer of an entry with outputs, what they hold, and the numbers.
-fn print_answer(number: u8, level: u32, a: &[u8], b: &[u8], out0: &mut [u8], out1: &mut [u8]) {
-    mark(out0);
+fn print_answer(case: Case, a: &[u8], b: &[u8], out0: &mut [u8], out1: &mut [u8]) {
     mark(out1);
-    let said = called(number, level, a, b, out0, out1);
+    let said = called(case, a, b, out0, out1);
     print_field(said.answer as u64);
     print_out(out0);
-    if outputs(number) == 2 {
+    if outputs(case.number) == 2 {
         print_out(out1);
     }
     print_number(said.reported, 0, said.first);
@@ -160,65 +186,71 @@ fn print_answer(number: u8, level: u32, a: &[u8], b: &[u8], out0: &mut [u8], out
     print_number(said.reported, 3, said.fourth);
 }
 
-fn print_line(
-    ordinal: u64,
-    number: u8,
-    level: u32,
-    a: &[u8],
-    b: &[u8],
-    out0: &mut [u8],
-    out1: &mut [u8],
-) {
-    io::print_decimal(STDOUT_FILENO, ordinal);
+fn print_line(case: Case, a: &[u8], b: &[u8], out0: &mut [u8], out1: &mut [u8]) {
+    io::print_decimal(STDOUT_FILENO, case.ordinal);
+    let number = case.number;
     print_field(number as u64);
     if number == 10 {
         print_record(a);
         return;
     }
-    print_answer(number, level, a, b, out0, out1);
+    print_answer(case, a, b, out0, out1);
 }
 
-// The four steps below each read one length and lend a part of that length on. False where the case is cut or a buffer is too large.
-fn with_output1(ordinal: u64, number: u8, level: u32, a: &[u8], b: &[u8], out0: &mut [u8]) -> bool {
+// What an output holds before the call. False where a stored map is cut.
+fn prepared(number: u8, out: &mut [u8]) -> bool {
+    if number == 15 {
+        return read(out);
+    }
+    mark(out);
+    true
+}
+
+// The four steps below each read one length and lend a part of that length on. False where the case is cut or a buffer
+// is too large.
+fn with_output1(case: Case, a: &[u8], b: &[u8], out0: &mut [u8]) -> bool {
+    if !prepared(case.number, out0) {
+        return false;
+    }
     let mut out1 = blank();
-    let n = size(outputs(number) == 2);
+    let n = size(outputs(case.number) == 2);
     if MOST < n {
         return false;
     }
-    print_line(ordinal, number, level, a, b, out0, &mut out1[..n]);
+    print_line(case, a, b, out0, &mut out1[..n]);
     io::write_all(STDOUT_FILENO, b"\n")
 }
 
-fn with_output0(ordinal: u64, number: u8, level: u32, a: &[u8], b: &[u8]) -> bool {
+fn with_output0(case: Case, a: &[u8], b: &[u8]) -> bool {
     let mut out0 = blank();
-    let n = size(outputs(number) > 0);
+    let n = size(outputs(case.number) > 0);
     if MOST < n {
         return false;
     }
-    with_output1(ordinal, number, level, a, b, &mut out0[..n])
+    with_output1(case, a, b, &mut out0[..n])
 }
 
-fn with_input1(ordinal: u64, number: u8, level: u32, a: &[u8], b: &mut [u8]) -> bool {
+fn with_input1(case: Case, a: &[u8], b: &mut [u8]) -> bool {
     if !read(b) {
         return false;
     }
-    with_output0(ordinal, number, level, a, b)
+    with_output0(case, a, b)
 }
 
-fn with_input0(ordinal: u64, number: u8, level: u32, a: &mut [u8]) -> bool {
+fn with_input0(case: Case, a: &mut [u8]) -> bool {
     if !read(a) {
         return false;
     }
     let mut b = blank();
-    let n = size(inputs(number) == 2);
+    let n = size(inputs(case.number) == 2);
     if MOST < n {
         return false;
     }
-    with_input1(ordinal, number, level, a, &mut b[..n])
+    with_input1(case, a, &mut b[..n])
 }
 
-pub fn answered(ordinal: u64, number: u8, level: u32) -> bool {
-    if inputs(number) == 0 {
+pub fn answered(case: Case) -> bool {
+    if inputs(case.number) == 0 {
         return false;
     }
     let mut a = blank();
@@ -226,8 +258,8 @@ pub fn answered(ordinal: u64, number: u8, level: u32) -> bool {
     if MOST < n {
         return false;
     }
-    if words::broken(number, n) {
+    if words::broken(case.number, n) {
         return false;
     }
-    with_input0(ordinal, number, level, &mut a[..n])
+    with_input0(case, &mut a[..n])
 }

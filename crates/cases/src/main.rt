@@ -14,12 +14,32 @@ pub enum Step {
     End,
 }
 
+// A number of a case; 0 for one that the entry has not.
+fn number_in(is_there: bool) -> lines::Number {
+    if !is_there {
+        return lines::Number::Is(0);
+    }
+    lines::read_number()
+}
+
 // The case after its first byte.
 fn rest(ordinal: u64, number: u8) -> bool {
     let lines::Number::Is(level) = lines::read_number() else {
         return false;
     };
-    entry::answered(ordinal, number, level)
+    let lines::Number::Is(first) = number_in(entry::numbers(number)) else {
+        return false;
+    };
+    let lines::Number::Is(second) = number_in(entry::numbers(number)) else {
+        return false;
+    };
+    entry::answered(entry::Case {
+        ordinal,
+        number,
+        level,
+        first,
+        second,
+    })
 }
 
 fn case(ordinal: u64) -> Step {
