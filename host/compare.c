@@ -22,8 +22,8 @@ struct lent {
 
 /* Key making's door has a report besides. */
 struct outcome {
-    uint32_t answer;
-    struct lent in[2], out[2], report;
+    uint32_t answer, counter;
+    struct lent in[3], out[2], report; /* in[2] is a stored map, which a call may change */
 };
 
 static uint8_t *bytes_of(struct lent *lent)
@@ -56,18 +56,23 @@ static uint32_t call(const struct doors *doors, const struct test_case *c, struc
     case WRAP: return doors->wrap(c->level, a, an, b, bn, x, xn, y, yn);
     case OPEN: return doors->open(c->level, a, an, b, bn, x, xn);
     case PACK_KEY: return doors->pack_key(c->level, a, an, x, xn);
-    default: return doors->unpack_key(c->level, a, an, x, xn);
+    case UNPACK_KEY: return doors->unpack_key(c->level, a, an, x, xn);
+    case WRITE_MAP: return doors->map_write(c->level, a, an, c->given[0], c->given[1], b, bn, x, xn);
+    default:
+        return doors->map_accept(c->level, a, an, c->given[0], b, bn, bytes_of(&o->in[2]), c->in[2].n, &o->counter);
     }
 }
 
 static void run(const struct doors *doors, const struct test_case *c, size_t report, struct outcome *o)
 {
     lend(&o->report, report);
-    for (int i = 0; i < 2; i++) {
+    for (int i = 0; i < 3; i++) {
         lend(&o->in[i], c->in[i].n);
         memcpy(bytes_of(&o->in[i]), c->in[i].bytes, c->in[i].n);
-        lend(&o->out[i], c->out[i]);
     }
+    for (int i = 0; i < 2; i++)
+        lend(&o->out[i], c->out[i]);
+    o->counter = c->given[1];
     o->answer = call(doors, c, o);
 }
 
@@ -86,6 +91,8 @@ static const char *difference(const struct test_case *c, struct outcome *got, st
     }
     if (memcmp(got->report.room, wanted->report.room, sizeof got->report.room) != 0)
         return "another report, or a byte outside it was changed";
+    if (memcmp(got->in[2].room, wanted->in[2].room, sizeof got->in[2].room) != 0 || got->counter != wanted->counter)
+        return "another map or counter is kept, or a byte outside the map was changed";
     return NULL;
 }
 
@@ -101,7 +108,7 @@ static const struct {
     uint32_t entry;
     const char *calls;
 } tried[] = {{MAKE_KEY, "key makings"}, {WRAP, "wrappings"}, {OPEN, "openings"}, {PACK_KEY, "packings"},
-             {UNPACK_KEY, "unpackings"}};
+             {UNPACK_KEY, "unpackings"}, {WRITE_MAP, "map writings"}, {ACCEPT_MAP, "map acceptances"}};
 enum { TRIED = sizeof tried / sizeof tried[0] };
 
 /* Calls made and calls refused, by entry. */

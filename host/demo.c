@@ -1,24 +1,31 @@
-/* What the parents see: two karts, an exchange, a code that is scanned badly, a ciphertext that is damaged on its way. */
+/* What the parents see: two karts, an exchange, a code that is scanned badly, a ciphertext that is damaged on its way;
+ * then maps, which go into the kart that they were written for and into no other. */
 #include <stdio.h>
 #include <stdlib.h>
 #include <string.h>
 #include <sys/random.h>
 
 #include "bike.h"
+#include "bike_map.h"
 
 enum {
     LEVEL = BIKE_LEVEL_1,
     PUBLIC = BIKE_LEVEL_1_PUBLIC_KEY_BYTES,
     PRIVATE = BIKE_LEVEL_1_PRIVATE_KEY_BYTES,
     CIPHERTEXT = BIKE_LEVEL_1_CIPHERTEXT_BYTES,
-    SESSION = BIKE_SESSION_KEY_BYTES
+    SESSION = BIKE_SESSION_KEY_BYTES,
+    MAP = BIKE_MAP_BYTES,
+    RECORD = BIKE_MAP_RECORD_BYTES
 };
 
 struct controller {
     const char *name;
+    uint32_t number;
     uint8_t public_key[PUBLIC]; /* shown as a code */
     uint8_t private_key[PRIVATE];
     uint8_t session_key[SESSION];
+    uint8_t map[MAP];
+    uint32_t last_counter;
 };
 
 struct app {
@@ -36,6 +43,12 @@ static const char *in_words(uint32_t answer)
         [BIKE_BAD_POSITION] = "the private key is no key",
         [BIKE_NO_INVERSE] = "this seed gives no key",
         [BIKE_NO_WORDS] = "this seed's words ran out, another is needed",
+        [BIKE_MAP_CUT] = "the record ends early",
+        [BIKE_MAP_OTHER_KIND] = "this is no map of this level",
+        [BIKE_MAP_BAD_BODY] = "the record states a wrong length",
+        [BIKE_MAP_OTHER_TAG] = "not written under this session's key",
+        [BIKE_MAP_OTHER_KART] = "written for another kart",
+        [BIKE_MAP_OLD_COUNTER] = "not newer than the last map",
     };
     return words[answer];
 }
@@ -109,6 +122,7 @@ static void exchange(struct app *app, struct controller *kart)
     must(wrap(app, kart->public_key, "wraps a fresh message") == BIKE_DONE, "not wrapped");
     open(kart, app, "opens the ciphertext");
     must(memcmp(app->session_key, kart->session_key, SESSION) == 0, "two keys");
+    kart->last_counter = BIKE_MAP_NEW_SESSION;
     printf("  Both have the same key.\n");
 }
 
@@ -135,10 +149,65 @@ static void damaged(struct app *app, struct controller *kart)
     printf("  No error, but another key: a map under the phone's key is worth nothing here.\n");
 }
 
+static void say_map(const struct controller *kart)
+{
+    printf("  %-18s stored map ", kart->name);
+    for (int i = 0; i < 8; i++)
+        printf("%02x", kart->map[i]);
+    printf(".., last counter %lu\n", (unsigned long)kart->last_counter);
+}
+
+static void write_map(const struct app *app, uint32_t kart, uint32_t counter, uint8_t byte, uint8_t *record)
+{
+    uint8_t map[MAP];
+    char what[40];
+    memset(map, byte, MAP);
+    snprintf(what, sizeof what, "writes map %02x.. for kart %lu", byte, (unsigned long)kart);
+    uint32_t answer = bike_map_write(LEVEL, app->session_key, SESSION, kart, counter, map, MAP, record, RECORD);
+    say_answer("phone", what, answer);
+    must(answer == BIKE_DONE, "not written");
+}
+
+/* The kart gets a record: it must answer so, and keep what it has unless it goes in. */
+static void get_map(struct controller *kart, const uint8_t *record, uint32_t wanted)
+{
+    struct controller before = *kart;
+    uint32_t answer = bike_map_accept(LEVEL, kart->session_key, SESSION, kart->number, record, RECORD, kart->map, MAP,
+                                      &kart->last_counter);
+    say_answer(kart->name, "gets it", answer);
+    say_map(kart);
+    must(answer == wanted, "another answer");
+    must(answer == BIKE_DONE || (memcmp(kart->map, before.map, MAP) == 0 && kart->last_counter == before.last_counter),
+         "a refused map left something");
+}
+
+static void maps(struct controller *blue, const struct app *to_blue, struct controller *red, const struct app *to_red)
+{
+    uint8_t record[RECORD];
+    memset(blue->map, 0xb0, MAP);
+    memset(red->map, 0xd0, MAP);
+    printf("\nBoth karts have a map. The phone writes a new one for the blue kart, number %lu.\n",
+           (unsigned long)blue->number);
+    say_map(blue);
+    say_map(red);
+    write_map(to_blue, blue->number, 1, 0xb1, record);
+    get_map(blue, record, BIKE_DONE);
+    printf("\nThe same record comes again, and then goes astray to the red kart.\n");
+    get_map(blue, record, BIKE_MAP_OLD_COUNTER);
+    get_map(red, record, BIKE_MAP_OTHER_TAG);
+    printf("\nA map for the blue kart's number, but under the red kart's session, reaches the red kart.\n");
+    write_map(to_red, blue->number, 1, 0xb2, record);
+    get_map(red, record, BIKE_MAP_OTHER_KART);
+    printf("\nNo map went into the wrong kart.\n");
+    say_map(blue);
+    say_map(red);
+}
+
 int main(int argc, char **argv)
 {
-    static struct controller blue = {.name = "the blue kart"}, red = {.name = "the red kart"};
-    static struct app app;
+    static struct controller blue = {.name = "the blue kart", .number = 7};
+    static struct controller red = {.name = "the red kart", .number = 12};
+    static struct app app, to_blue;
     if (argc != 1) {
         fprintf(stderr, "demo: takes no arguments, and was given %s\n", argv[1]);
         return 2;
@@ -146,8 +215,11 @@ int main(int argc, char **argv)
     printf("\nTwo controllers make their keys.\n");
     make(&blue);
     make(&red);
-    exchange(&app, &blue);
+    exchange(&to_blue, &blue);
+    app = to_blue;
     bad_scan(&app, &red);
     damaged(&app, &red);
+    exchange(&app, &red);
+    maps(&blue, &to_blue, &red, &app);
     return 0;
 }
