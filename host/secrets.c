@@ -1,18 +1,22 @@
-/* What host/secrets runs under valgrind: the three doors with their secrets marked, a planted leak, or one opening that
- * is to be counted. */
+/* What host/secrets runs under valgrind: the doors of an exchange and of a map with their secrets marked, a planted
+ * leak, or one opening that is to be counted. */
 #include <stdbool.h>
 #include <stdio.h>
 #include <stdlib.h>
 #include <string.h>
 
 #include "bike.h"
+#include "bike_map.h"
 #include "memcheck.h"
 
-/* The buffers of an exchange, as long as Level 3 needs them. */
+enum { KART = 7 };
+
+/* The buffers of an exchange, as long as Level 3 needs them, and of a map. */
 static struct {
     uint8_t seed[BIKE_SEED_BYTES], message[BIKE_MESSAGE_BYTES], session_key[BIKE_SESSION_KEY_BYTES];
     uint8_t public_key[BIKE_LEVEL_3_PUBLIC_KEY_BYTES], private_key[BIKE_LEVEL_3_PRIVATE_KEY_BYTES];
     uint8_t ciphertext[BIKE_LEVEL_3_CIPHERTEXT_BYTES], report[BIKE_REPORT_BYTES];
+    uint8_t map[BIKE_MAP_BYTES], record[BIKE_MAP_RECORD_BYTES];
 } lent;
 
 struct lengths {
@@ -25,7 +29,7 @@ static const struct lengths levels[] = {
     {BIKE_LEVEL_3, BIKE_LEVEL_3_PUBLIC_KEY_BYTES, BIKE_LEVEL_3_PRIVATE_KEY_BYTES, BIKE_LEVEL_3_CIPHERTEXT_BYTES},
 };
 
-/* Whether seed, message and private key are marked. */
+/* Whether seed, message, private key and session key are marked. */
 static bool marked;
 
 static void secret(const uint8_t *bytes, size_t n)
@@ -99,6 +103,29 @@ static void open(const struct lengths *n)
                    lent.session_key, sizeof lent.session_key));
 }
 
+static uint32_t accept_map(const struct lengths *n, uint32_t *last)
+{
+    uint32_t answer = bike_map_accept(n->level, lent.session_key, sizeof lent.session_key, KART,
+                                      lent.record, sizeof lent.record, lent.map, sizeof lent.map, last);
+    mark_public(&answer, sizeof answer);
+    return answer;
+}
+
+/* A map under a fresh session key, and once more with a bit of its tag turned. Map and record are no secrets. */
+static void maps(const struct lengths *n)
+{
+    uint32_t last = BIKE_MAP_NEW_SESSION;
+    fill(lent.session_key, sizeof lent.session_key);
+    secret(lent.session_key, sizeof lent.session_key);
+    done(bike_map_write(n->level, lent.session_key, sizeof lent.session_key, KART, 1, lent.map, sizeof lent.map,
+                        lent.record, sizeof lent.record));
+    mark_public(lent.record, sizeof lent.record);
+    done(accept_map(n, &last));
+    lent.record[sizeof lent.record - 1] ^= 1;
+    if (accept_map(n, &last) != BIKE_MAP_OTHER_TAG)
+        fail("a wrong tag was taken");
+}
+
 /* Every door at every level, a fresh message for each kind of ciphertext. */
 static void all_doors(void)
 {
@@ -109,6 +136,7 @@ static void all_doors(void)
             spoil(&levels[i], kind);
             open(&levels[i]);
         }
+        maps(&levels[i]);
     }
 }
 

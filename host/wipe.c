@@ -7,6 +7,7 @@
 #include <sys/random.h>
 
 #include "bike.h"
+#include "bike_map.h"
 
 enum { THREAD_BYTES = 1 << 21, PIECE = 32 };
 
@@ -17,6 +18,7 @@ static _Alignas(4096) uint8_t stack[THREAD_BYTES];
 static uint8_t seed[BIKE_SEED_BYTES], message[BIKE_MESSAGE_BYTES], session_key[BIKE_SESSION_KEY_BYTES];
 static uint8_t public_key[BIKE_LEVEL_1_PUBLIC_KEY_BYTES], private_key[BIKE_LEVEL_1_PRIVATE_KEY_BYTES];
 static uint8_t ciphertext[BIKE_LEVEL_1_CIPHERTEXT_BYTES], report[BIKE_REPORT_BYTES];
+static uint8_t map[BIKE_MAP_BYTES], record[BIKE_MAP_RECORD_BYTES], right_tag[PIECE];
 
 static _Noreturn void fail(const char *what)
 {
@@ -42,6 +44,25 @@ static uint32_t open(void)
                      session_key, sizeof session_key);
 }
 
+/* A record whose tag is then damaged. Its right tag is a secret: with it the record would go in. */
+static uint32_t write_map(void)
+{
+    uint8_t *tag = record + sizeof record - PIECE;
+    uint32_t answer = bike_map_write(BIKE_LEVEL_1, session_key, sizeof session_key, 7, 1, map, sizeof map,
+                                     record, sizeof record);
+    memcpy(right_tag, tag, PIECE);
+    tag[0] ^= 1;
+    return answer;
+}
+
+static uint32_t refuse_map(void)
+{
+    uint32_t last = BIKE_MAP_NEW_SESSION;
+    uint32_t answer = bike_map_accept(BIKE_LEVEL_1, session_key, sizeof session_key, 7, record, sizeof record,
+                                      map, sizeof map, &last);
+    return answer == BIKE_MAP_OTHER_TAG ? BIKE_DONE : answer;
+}
+
 struct job {
     const char *name;
     uint32_t (*call)(void);
@@ -52,6 +73,8 @@ static const struct job jobs[] = {
     {"key making", make_key, {seed, seed + PIECE, private_key}},
     {"wrapping", wrap, {message, session_key, NULL}},
     {"opening", open, {message, session_key, private_key}},
+    {"writing a map", write_map, {session_key, NULL, NULL}},
+    {"refusing a map", refuse_map, {session_key, right_tag, NULL}},
 };
 
 static void *only_call(void *argument)
@@ -93,7 +116,7 @@ int main(void)
         fail("no random bytes");
     for (size_t i = 0; i < sizeof jobs / sizeof jobs[0]; i++) {
         unsigned long plain = left_by(only_call, &jobs[i]), wiped = left_by(call_and_wipe, &jobs[i]);
-        printf("copies of secrets on the stack after %-10s  %lu; after bike_wipe_stack  %lu\n", jobs[i].name, plain,
+        printf("copies of secrets on the stack after %-14s  %lu; after bike_wipe_stack  %lu\n", jobs[i].name, plain,
                wiped);
         before += plain;
         after += wiped;
