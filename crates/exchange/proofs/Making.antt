@@ -14,6 +14,7 @@ use Rattle.hashing.specs.Lists.{tab}
 use Rattle.hashing.proofs.Lists.{length-tab, getD-tab}
 use Rattle.ring.specs.Polynomials.{Poly, InRing, rising, weight, bit, listed, support}
 use Rattle.ring.proofs.Bools.{both-true}
+use Rattle.ring.proofs.Weights.{length-rising}
 use Rattle.ring.specs.Bytes.{littleEndian, numbers}
 use Rattle.ring.specs.Levels.{Level}
 use Rattle.exchange.specs.decoder.PrivateKey.{positions0, positions1, tail, secret, risingFrom}
@@ -91,16 +92,6 @@ bounded r {a} inside = fun-ext (λ k. go k (decLt k r))
 pub support-rising : (r : ℕ) {a : Poly} → InRing r a → support (rising r a) ≡ a
 unfolding support
 support-rising r {a} inside = fun-ext (listed-rising r a) ∙ bounded r inside
-
-pub length-rising : (n : ℕ) (a : Poly) → length (rising n a) ≡ weight n a
-unfolding rising weight
-length-rising zero a = refl
-length-rising (suc n) a =
-    length-append (rising n a) _ ∙ ap₂ _+_ (length-rising n a) (go (a n))
-  where
-    go : (b : Bool) → length {A = ℕ} (elim b as (λ _. List ℕ) [ true ↦ n ∷ [] | false ↦ [] ]) ≡ bit b
-    go true = refl
-    go false = refl
 
 -- a private key that was written with d positions in each half reads back
 module _ (l : Level) (a b : Poly) (last : List ℕ) (wa : weight (l .r) a ≡ l .d) (wb : weight (l .r) b ≡ l .d) where

@@ -7,10 +7,10 @@ use hashing::sponge;
 use ring::WORDS;
 use ring::invert;
 use ring::little_endian::four;
-use ring::multiply;
 use ring::positions;
 use ring::size;
 use ring::size::TAIL;
+use ring::times::times;
 use ring::words;
 ghost use mathlib.Core.Path.{_≡_};
 ghost use mathlib.Core.Bool.{true, false};
@@ -215,14 +215,15 @@ fn write(
         × (now («private_key» .exit) ≡ privateOf (levelOf level) (now (seed .entry)))) ⌝ }
 {
     let r = size::block(level);
+    let d = size::key_weight(level);
     let h0 = h.h0;
     let h1 = h.h1;
-    let inverse = invert::invert(r, h0);
+    let inverse = invert::invert(r, h0, d);
     if !inverse.exists {
         return false;
     }
     let value = inverse.value;
-    words::store(multiply::multiply(r, h1, value), public_key);
+    words::store(times(r, value, h1, d), public_key);
     let tail = tail_of(&seed[32..], public_key);
     write_private(level, KeyWords { h0, h1 }, &tail, private_key);
     true

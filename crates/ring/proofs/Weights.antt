@@ -1,19 +1,21 @@
 -- The weight of a polynomial: what changes it, how it splits, and that of a word. Assumes nothing.
 use mathlib.Core.Path.{_≡_, refl, sym, ap, ap₂, _∙_}
 use mathlib.Core.Bool.{Bool, true, false, _||_}
-use Prim.Native.Nat.{ℕ, zero, suc, _+_, _/_, _%_, _^_, _≤_, _<_}
-use native.Mathlib.Nat.{not-suc-le-zero, le-refl, add-zero, add-suc, add-assoc, add-comm, mod-lt, mod-eq-of-lt, le-of-suc-le-suc}
+use mathlib.Core.List.{List, [], _∷_}
+use Prim.Native.Nat.{ℕ, zero, suc, _+_, _-_, _/_, _%_, _^_, _≤_, _<_}
+use native.Mathlib.Nat.{not-suc-le-zero, le-refl, add-zero, add-suc, add-assoc, add-comm, mod-lt, mod-eq-of-lt, le-of-suc-le-suc, le-add-right, add-sub-of-le}
 use native.Mathlib.Numerals.{add-one}
 use native.Mathlib.Decide.{ℕ-discrete}
 use native.Mathlib.Omega.{arith}
 use lib.Arith.{lt-one}
 use lib.Count.{ones, ones-cat}
 use lib.Dec.{eqb}
+use lib.ListN.{length, length-append}
 use lib.Pow.{pow-pos, split, shr-lt}
 use borrow.Author.Tests.{eq-eqb, ne-eqb}
 use Rattle.hashing.specs.Lists.{bitAt}
 use Rattle.hashing.proofs.Words.{bit-mod}
-use Rattle.ring.specs.Polynomials.{Poly, both, bit, weight}
+use Rattle.ring.specs.Polynomials.{Poly, InRing, both, bit, weight, rising}
 use Rattle.ring.proofs.Binary.{bit-bitAt}
 
 pub weight-ext : (n : ℕ) {a b : Poly} → ((k : ℕ) → k < n → a k ≡ b k) → weight n a ≡ weight n b
@@ -80,3 +82,21 @@ weight-word (suc w) x h =
     ∙ ap₂ (λ (low high : ℕ). low + high)
     (weight-word w (x % 2 ^ w) (mod-lt x (pow-pos w)) ∙ weight-ext w {a = bitAt (x % 2 ^ w)} {b = bitAt x} (λ e below. bit-mod x w e below))
     (ones-bit (x / 2 ^ w) (top-lt w x h) ∙ sym (top w x h))
+
+-- a polynomial of the ring has all its weight below r
+pub weight-in : (r n : ℕ) {a : Poly} → InRing r a → r ≤ n → weight n a ≡ weight r a
+weight-in r n {a = a} h le =
+    ap (λ (m : ℕ). weight m a) (sym (add-sub-of-le le)) ∙ weight-add r (n - r) a
+    ∙ ap (_+_ (weight r a)) (weight-ext (n - r) {b = λ k. false} (λ k below. h (r + k) (le-add-right r k)) ∙ weight-none (n - r))
+    ∙ add-zero (weight r a)
+
+-- as many exponents as it weighs
+pub length-rising : (n : ℕ) (a : Poly) → length (rising n a) ≡ weight n a
+unfolding rising weight
+length-rising zero a = refl
+length-rising (suc n) a =
+    length-append (rising n a) _ ∙ ap₂ _+_ (length-rising n a) (go (a n))
+  where
+    go : (b : Bool) → length {A = ℕ} (elim b as (λ _. List ℕ) [ true ↦ n ∷ [] | false ↦ [] ]) ≡ bit b
+    go true = refl
+    go false = refl

@@ -1,4 +1,5 @@
 pub mod Held
+pub mod Ones
 pub mod Rows
 pub mod Sizes
 pub mod Upper

@@ -9,6 +9,7 @@ pub mod positions;
 pub mod size;
 pub mod sparse;
 mod square;
+pub mod times;
 pub mod unpack;
 pub mod words;
 
@@ -63,7 +64,9 @@ pub fn inverse(level: u32, a: &[u8], out: &mut [u8]) -> u32
     if answer != 0 {
         return refuse::one(answer, out);
     }
-    let found = invert::invert(size::block(level), words::load(a));
+    let r = size::block(level);
+    let x = words::load(a);
+    let found = invert::invert(r, x, words::weight(x, r / 64 + 1));
     if !found.exists {
         return refuse::one(5, out);
     }

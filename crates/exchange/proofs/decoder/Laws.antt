@@ -172,13 +172,6 @@ in-words r h k past = h k (omega arith)
 pub few-words : (level r : ℕ) → r ≡ levelOf level .r → r / 64 + 1 ≤ words
 few-words level r e = omega (arith, sizes level)
 
--- and so does its weight
-pub weight-in : (r n : ℕ) {a : Poly} → InRing r a → r ≤ n → weight n a ≡ weight r a
-weight-in r n {a = a} h le =
-    ap (λ (m : ℕ). weight m a) (sym (add-sub-of-le le)) ∙ weight-add r (n - r) a
-    ∙ ap (_+_ (weight r a)) (weight-ext (n - r) {b = λ k. false} (λ k below. h (r + k) (le-add-right r k)) ∙ weight-none (n - r))
-    ∙ add-zero (weight r a)
-
 pub weight-le : (n : ℕ) (a : Poly) → weight n a ≤ n
 unfolding weight
 weight-le zero a = omega arith

@@ -1,6 +1,7 @@
 -- `inverse` inverts where its judge finds nothing, and refuses with 5 where there is no inverse.
 use mathlib.Core.Path.{_≡_, sym, ap, _∙_}
 use mathlib.Core.Bool.{true, not}
+use Prim.Native.Nat.{_+_, _*_, _/_}
 use native.Mathlib.Omega.{arith}
 use lib.ListN.{length}
 use borrow.Author.Needs.{needs}
@@ -9,10 +10,11 @@ use Rattle.hashing.specs.Lists.{bits}
 use Rattle.hashing.proofs.Answers.{done, refused, first-stays, last-applies, last-clear}
 use Rattle.ring.specs.Bytes.{bytesOf}
 use Rattle.ring.specs.Levels.{levelOf}
-use Rattle.ring.specs.Polynomials.{hasInverse, inverseOf}
+use Rattle.ring.specs.Polynomials.{InRing, hasInverse, inverseOf}
 use Rattle.ring.specs.Promises.{inverse-says}
 use Rattle.ring.proofs.Judging.{Judged, judged-one, inverse-numbered}
-use Rattle.ring.proofs.Levels.{r-big, r-odd, r-cycle}
+use Rattle.ring.proofs.Levels.{r-odd, r-cycle, sizes}
+use Rattle.ring.proofs.Weights.{weight-in}
 use Rattle.ring.proofs.inverse.Statement.{statement}
 use Rattle.ring.proofs.inverse.Tie as tie
 
@@ -31,28 +33,37 @@ found : (c : tie.Else1) →
     Judged (args .level) (args .a .now) (args .a .now) (length (args .out .now))
 found c = judged-one _ _ _ (sym (c .before .judge-inverse .ensures) ∙ c .if1 .left)
 
+-- the bytes, in words, are of the ring
+loaded : (c : tie.After-load) →
+    InRing (levelOf (c .before .before .before .before .before .before .args .level) .r) (bits 64 (c .load .result))
+loaded c =
+    let bytes = c .before .before .before .before .before .shared-slice-known .given in
+    rw (c .load .ensures) (found (c .before .before) .inside0 (λ i. bytes i .fits))
+
 invert-requires : tie.Need-invert-requires
 invert-requires c κs =
-    let row = c .before in
-    let in-ring = found (row .before) in
-    let bytes = row .before .before .before .before .shared-slice-known .given in
+    let row = c .before .before in
+    let start = row .before .before .before .before .before in
+    let bounds = sizes (start .args .level) in
+    let r = levelOf (start .args .level) .r in
+    let inside = loaded (c .before) in
     rw (row .block .ensures)
-    ((r-odd _, r-big _, in-ring .small, r-cycle _), rw (c .load .ensures) (in-ring .inside0 (λ i. bytes i .fits)))
+    ((r-odd _, omega arith, found (row .before) .small, r-cycle _), (inside, λ few. sym (weight-in r (64 * (r / 64 + 1)) inside (omega arith)) ∙ sym (rw (row .block .ensures) at (c .weight .ensures))))
 
 -- what `invert` says, of the bytes
 inverted : (c : tie.After-invert) →
-    let args = c .before .before .before .before .before .before .before .args in
+    let args = c .before .before .before .before .before .before .before .before .args in
     let r = levelOf (args .level) .r in
     (c .invert .result .exists ≡ hasInverse r (bits 8 (args .a .now)))
     × (c .invert .result .exists ≡ true → bits 64 (c .invert .result .value) ≡ inverseOf r (bits 8 (args .a .now)))
-inverted c = rw (← c .before .load .ensures, ← c .before .before .block .ensures) (c .invert .ensures)
+inverted c = rw (← c .before .before .load .ensures, ← c .before .before .before .block .ensures) (c .invert .ensures)
 
 returns-2 : tie.Need-returns-2
 unfolding inverse-says
 returns-2 c =
     let refusal = c .before .before in
     let invert = refusal .before .before .before .before in
-    let judge = invert .before .before .before in
+    let judge = invert .before .before .before .before in
     let none = sym (judge .before .judge-inverse .ensures) ∙ judge .if1 .left in
     let five = last-applies _ _ (inverse-numbered _ _ _) none (ap not (sym (inverted invert .0)) ∙ refusal .before .before .if2 .taken) in
     rw (refusal .one2 .ensures .0, refusal .one2 .ensures .1) (sym (refused _ _ (sym five) (λ e. omega arith)))
@@ -62,7 +73,7 @@ unfolding inverse-says bytesOf
 returns-3 c =
     let exists = c .before .before .before .before .before in
     let invert = exists .before .before in
-    let judge = invert .before .before .before in
+    let judge = invert .before .before .before .before in
     let there = not-false _ (exists .if2 .left) in
     let none = sym (judge .before .judge-inverse .ensures) ∙ judge .if1 .left in
     let clear = last-clear _ (record { applies = _; number = 5 }) (inverse-numbered _ _ _) none (ap not (sym (inverted invert .0)) ∙ exists .if2 .left) in
@@ -78,10 +89,12 @@ inverse-spec =
     returns
     (λ c κs. search needs)
     (λ c κs. let fits = found (c .before) in omega arith)
+    (λ c. search needs)
+    (λ c κs. let bounds = sizes (c .before .before .before .before .before .before .args .level) in let r = c .before .block .ensures in omega arith)
     invert-requires
     (λ c κs. search needs)
     (λ c. search needs)
     returns-2
-    (λ c κs. let fits = found (c .before .before .before .before .before .before .before) in omega arith)
+    (λ c κs. let fits = found (c .before .before .before .before .before .before .before .before) in omega arith)
     (λ c. search needs)
     returns-3)

@@ -63,7 +63,7 @@ pair-bits d i k below = go (decLt k 64)
         bits-at 64 _ 1 (k - 64) (omega arith) (omega arith) ∙ sym (bits-at 64 d (i + 1) (k - 64) (omega arith) (omega arith))
 
 -- a term more
-terms-snoc : (r : ℕ) (ps : List ℕ) (p : ℕ) → terms r (ps ++ (p ∷ [])) ≡ add (terms r ps) (power r p)
+pub terms-snoc : (r : ℕ) (ps : List ℕ) (p : ℕ) → terms r (ps ++ (p ∷ [])) ≡ add (terms r ps) (power r p)
 unfolding terms add
 terms-snoc r [] p = fun-ext (λ k. flip-false (power r p k))
 terms-snoc r (q ∷ rest) p =

@@ -9,7 +9,7 @@ use Rattle.hashing.specs.Lists.{bits}
 use Rattle.ring.specs.Levels.{levelOf}
 use Rattle.ring.proofs.Levels.{r-small, sizes}
 use Rattle.exchange.specs.Scheme.{twoBytes}
-use Rattle.exchange.proofs.Making.{length-rising}
+use Rattle.ring.proofs.Weights.{length-rising}
 use Rattle.exchange.proofs.keys.write_half.Statement.{statement}
 use Rattle.exchange.proofs.keys.write_half.Tie as tie
 

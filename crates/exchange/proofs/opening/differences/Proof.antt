@@ -9,7 +9,8 @@ use Rattle.ring.specs.Polynomials.{InRing, weight, add}
 use Rattle.ring.specs.inner.Sizes.{words}
 use Rattle.ring.proofs.Levels.{sizes}
 use Rattle.ring.proofs.Ring.{add-in}
-use Rattle.exchange.proofs.decoder.Laws.{in-words, few-words, weight-in, weight-le}
+use Rattle.ring.proofs.Weights.{weight-in}
+use Rattle.exchange.proofs.decoder.Laws.{in-words, few-words, weight-le}
 use Rattle.exchange.proofs.opening.differences.Statement.{statement}
 use Rattle.exchange.proofs.opening.differences.Tie as tie
 

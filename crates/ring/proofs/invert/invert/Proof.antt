@@ -2,25 +2,35 @@
 use mathlib.Core.Path.{_∙_}
 use native.Mathlib.Omega.{arith}
 use borrow.Author.Needs.{needs}
+use Rattle.hashing.specs.Lists.{bits}
+use Rattle.ring.specs.Polynomials.{InRing}
 use Rattle.ring.proofs.Chains.{chain-is}
 use Rattle.ring.proofs.Powers.{pow-in}
+use Rattle.ring.proofs.Ring.{mul-comm}
 use Rattle.ring.proofs.invert.Laws.{decided}
 use Rattle.ring.proofs.invert.invert.Statement.{statement}
 use Rattle.ring.proofs.invert.invert.Tie as tie
 
-multiply-requires : tie.Need-multiply-requires
-multiply-requires c κs =
-    let r = c .before .args .r in
-    let ha = c .before .pre .1 in
-    (omega arith, (ha, rw (c .power .ensures, chain-is r (omega arith) ha (omega arith)) (pow-in r (omega arith) _ _)))
+times-requires : tie.Need-times-requires
+times-requires c κs =
+    let start = c .before in
+    let r = start .args .r in
+    let ha = start .pre .1 .0 in
+    let inside : InRing r (bits 64 (c .power .result)) = rw (c .power .ensures, chain-is r (omega arith) ha (omega arith)) (pow-in r (omega arith) _ _) in
+    ((omega arith, omega arith, omega arith), ((inside, ha), start .pre .1 .1))
 
 returns : tie.Need-returns
 returns c =
-    let r = c .before .before .before .args .r in
-    let pre = c .before .before .before .pre in
-    decided r (omega arith) (pre .0 .3) (pre .1) (c .before .before .power .ensures ∙ chain-is r (omega arith) (pre .1) (omega arith))
-    (c .before .multiply .ensures) (c .is-one .result) (c .is-one .ensures r)
+    let start = c .before .before .before in
+    let r = start .args .r in
+    let ha = start .pre .1 .0 in
+    decided r (omega arith) (start .pre .0 .3) ha (c .before .before .power .ensures ∙ chain-is r (omega arith) ha (omega arith))
+    (c .before .times .ensures ∙ mul-comm r _ _) (c .is-one .result) (c .is-one .ensures r)
 
 pub invert-spec : {M : Type 1} → statement M
 invert-spec =
-    tie.close (tie.spec (λ c κs. search needs) multiply-requires (λ c κs. search needs) returns)
+    tie.close (tie.spec
+    (λ c κs. ((omega arith, omega arith, omega arith), (c .pre .1 .0, c .pre .1 .1)))
+    times-requires
+    (λ c κs. search needs)
+    returns)

@@ -4,6 +4,7 @@ use Prim.Native.Nat.{ℕ, _+_, _-_, _/_, _^_, _<_}
 use native.Mathlib.Omega.{arith}
 use Rattle.hashing.specs.Lists.{bitAt, bits}
 use Rattle.ring.specs.Polynomials.{InRing, spread}
+use Rattle.ring.specs.inner.Ones.{Ones}
 use Rattle.ring.specs.Chain.{Rung, climb, digits, top, chain}
 use Rattle.ring.proofs.Chains.{top-one}
 use Rattle.ring.proofs.invert.Laws.{next-rung, rung-in}
@@ -11,18 +12,18 @@ use Rattle.ring.proofs.invert.power.Statement.{statement}
 use Rattle.ring.proofs.invert.power.Tie as tie
 
 abbrev Inv-loop : tie.InvT-loop
-Inv-loop r a u x₀ n₀ x n =
-    (n < 64) × InRing r (bits 64 x)
+Inv-loop r a ones u x₀ onesX₀ n₀ x onesX n =
+    (n < 64) × InRing r (bits 64 x) × Ones r (bits 64 x) onesX
     × (climb r (bits 64 a) (record { value = bits 64 x; span = u / 2 ^ n }) (digits n u)
     ≡ climb r (bits 64 a) (record { value = bits 64 a; span = 1 }) (digits (top u) u))
 
 abbrev μ-loop : tie.MeasureT-loop
-μ-loop r a u x₀ n₀ x n = n
+μ-loop r a ones u x₀ onesX₀ n₀ x onesX n = n
 
 loop-holds : tie.Need-loop-holds Inv-loop μ-loop
 loop-holds c =
     let u : ℕ = c .before .args .r - 2 in
-    (omega arith, c .before .pre .1, rw (c .top .ensures .1, top-one u (omega arith)))
+    (omega arith, c .before .pre .1 .0, c .before .pre .1 .1, rw (c .top .ensures .1, top-one u (omega arith)))
 
 loop-again : tie.Need-loop-again Inv-loop μ-loop
 unfolding bitAt
@@ -33,7 +34,8 @@ loop-again c =
     let one-less : was .n ≡ n + 1 = omega arith in (
       omega arith,
       rw (c .climb .ensures) (rung-in (given .r) (omega arith) (bits 64 (given .a)) _ _),
-      rw (c .climb .ensures) (sym (next-rung (given .r) (bits 64 (given .a)) (given .r - 2) n (bits 64 (was .x))) ∙ (rw one-less at (was .inv .2))),
+      (λ few. absurd (omega (arith, few))),
+      rw (c .climb .ensures) (sym (next-rung (given .r) (bits 64 (given .a)) (given .r - 2) n (bits 64 (was .x))) ∙ (rw one-less at (was .inv .3))),
     )
 
 returns : tie.Need-returns Inv-loop μ-loop
@@ -41,7 +43,7 @@ unfolding chain climb digits
 returns c =
     let was = c .before .before .loop in
     let end : was .n ≡ 0 = omega arith in
-    c .squared .ensures ∙ ap (λ (e : Rung). spread (c .before .before .before .before .args .r) 2 (e .value)) (rw end at (was .inv .2))
+    c .squared .ensures ∙ ap (λ (e : Rung). spread (c .before .before .before .before .args .r) 2 (e .value)) (rw end at (was .inv .3))
 
 pub power-spec : {M : Type 1} → statement M
 power-spec =
@@ -56,7 +58,10 @@ power-spec =
     (λ c. omega arith)
     (λ c. omega arith)
     (λ c. omega arith)
-    (λ c κs. (omega arith, (c .before .before .before .pre .1, c .before .loop .inv .1)))
+    (λ c κs.
+    let start = c .before .before .before in
+    let so = c .before .loop .inv in
+    ((omega arith, omega arith, omega arith), ((start .pre .1 .0, so .1), (start .pre .1 .1, so .2))))
     (λ c. omega arith)
     loop-again
     (λ c κs. omega arith)

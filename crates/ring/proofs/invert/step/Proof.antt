@@ -9,15 +9,16 @@ use Rattle.ring.proofs.Powers.{spread-in}
 use Rattle.ring.proofs.invert.step.Statement.{statement}
 use Rattle.ring.proofs.invert.step.Tie as tie
 
-multiply-requires : tie.Need-multiply-requires
-multiply-requires c κs =
+times-requires : tie.Need-times-requires
+times-requires c κs =
     let given = c .before .args in
-    (omega arith, (rw (c .squared .ensures) (spread-in (given .r) (omega arith) (2 ^ given .k) (bits 64 (given .x))), c .before .pre .1))
+    let start = c .before in
+    (start .pre .0, ((rw (c .squared .ensures) (spread-in (given .r) (omega arith) (2 ^ given .k) (bits 64 (given .x))), start .pre .1 .0), start .pre .1 .1))
 
 returns : tie.Need-returns
 returns c =
     let given = c .before .before .args in
-    c .multiply .ensures ∙ ap (λ (p : Poly). mul (given .r) p (bits 64 (given .y))) (c .before .squared .ensures)
+    c .times .ensures ∙ ap (λ (p : Poly). mul (given .r) p (bits 64 (given .y))) (c .before .squared .ensures)
 
 pub step-spec : {M : Type 1} → statement M
-step-spec = tie.close (tie.spec (λ c κs. search needs) multiply-requires returns)
+step-spec = tie.close (tie.spec (λ c κs. (omega arith, omega arith, omega arith)) times-requires returns)

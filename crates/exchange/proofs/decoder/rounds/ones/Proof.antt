@@ -2,7 +2,8 @@
 use mathlib.Core.Path.{_∙_}
 use native.Mathlib.Omega.{arith}
 use borrow.Author.Needs.{needs}
-use Rattle.exchange.proofs.decoder.Laws.{few-words, weight-in}
+use Rattle.ring.proofs.Weights.{weight-in}
+use Rattle.exchange.proofs.decoder.Laws.{few-words}
 use Rattle.exchange.proofs.decoder.rounds.ones.Statement.{statement}
 use Rattle.exchange.proofs.decoder.rounds.ones.Tie as tie
 
