@@ -52,6 +52,9 @@ module _ {ℓ} {A : Type ℓ} where
       rw (add-one i, drop-cons l i d h, set-at (tab i f) (getD l i d) (drop (suc i) l) (f i) i (length-tab i f))
       (sym (append-assoc (tab i f) (f i ∷ []) (drop (suc i) l)))
 
+  pub filled-again : (i : ℕ) (f : ℕ → A) (l rest : List A) → l ≡ tab i f ++ rest → l ≡ tab i f ++ drop i l
+  filled-again i f l rest done = done ∙ ap (λ (xs : List A). tab i f ++ xs) (sym (ap (drop i) done ∙ drop-at (tab i f) rest i (length-tab i f)))
+
   pub filled-all : (n : ℕ) (f : ℕ → A) (l : List A) → length l ≡ n → tab n f ++ drop n l ≡ tab n f
   filled-all n f l h = rw (drop-of-length-le l (le-of-eq h)) (append-nil (tab n f))
 

@@ -2,6 +2,7 @@
 pub mod fill;
 pub mod keccak;
 pub mod kmac;
+pub mod lanes;
 pub mod refuse;
 pub mod sponge;
 

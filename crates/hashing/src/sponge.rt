@@ -1,8 +1,12 @@
 // The sponge of FIPS 202, section 4: a hash that takes its message slice by slice and gives its output slice by slice.
-// The loops go byte by byte on locals: a struct or an array by value in each turn would cost four times as much.
+// The loops go on locals: a struct or an array by value in each turn would cost four times as much.
 use crate::keccak::permute;
+use crate::lanes::at_once;
+use crate::lanes::byte_in;
+use crate::lanes::lay;
+use crate::lanes::part;
 ghost use mathlib.Core.Path.{_≡_};
-ghost use Prim.Native.Nat.{_*_, _/_, _%_, _^_, _≤_, _<_};
+ghost use Prim.Native.Nat.{_≤_, _<_};
 ghost use lib.ListN.{length};
 ghost use Rattle.hashing.specs.inner.Running.{Starts, Absorbs, Finishes, Squeezes};
 ghost use Rattle.hashing.specs.Sponge.{sponge};
@@ -20,22 +24,6 @@ pub const SHA3_384_SUFFIX: u8 = 0x06;
 pub struct Sponge {
     pub lanes: [u64; 25],
     pub place: usize,
-}
-
-// A byte as byte k of a lane, the lowest first.
-fn byte_in(b: u8, k: usize) -> u64
-    requires { ⌜ k < 8 ⌝ }
-    ensures { λ r. ⌜ r ≡ b * 2 ^ (8 * k) ⌝ }
-{
-    (b as u64) << (8 * k)
-}
-
-// Byte k of a lane.
-fn byte_of(lane: u64, k: usize) -> u8
-    requires { ⌜ k < 8 ⌝ }
-    ensures { λ r. ⌜ r ≡ lane / 2 ^ (8 * k) % 256 ⌝ }
-{
-    ((lane >> (8 * k)) % 256) as u8
 }
 
 pub fn start() -> Sponge
@@ -56,13 +44,14 @@ pub fn absorb(rate: usize, hash: Sponge, bytes: &[u8]) -> Sponge
     let mut place = hash.place;
     let mut i = 0;
     while i < bytes.len() {
-        lanes[place / 8] = lanes[place / 8] ^ byte_in(bytes[i], place % 8);
-        place += 1;
+        let n = at_once(place % 8, rate - place, bytes.len() - i);
+        lanes[place / 8] = lanes[place / 8] ^ part(bytes, i, n, place % 8);
+        place += n;
         if place == rate {
             lanes = permute(lanes);
             place = 0;
         }
-        i += 1;
+        i += n;
     }
     Sponge { lanes, place }
 }
@@ -96,9 +85,10 @@ pub fn squeeze(rate: usize, hash: Sponge, out: &mut [u8]) -> Sponge
             lanes = permute(lanes);
             place = 0;
         }
-        out[i] = byte_of(lanes[place / 8], place % 8);
-        place += 1;
-        i += 1;
+        let n = at_once(place % 8, rate - place, out.len() - i);
+        lay(lanes[place / 8], place % 8, n, out, i);
+        place += n;
+        i += n;
     }
     Sponge { lanes, place }
 }

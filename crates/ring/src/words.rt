@@ -1,10 +1,12 @@
 // Polynomials in words of 64 bits: coefficient i is bit i mod 64 of word i div 64.
 use crate::frame::zeros;
 use crate::size::WORDS;
+use hashing::lanes::eight_bytes;
+use hashing::lanes::lay_eight;
 ghost use mathlib.Core.Path.{_≡_};
-ghost use mathlib.Core.List.{[], _∷_};
+ghost use mathlib.Core.List.{[], _∷_, _++_};
 ghost use Prim.Native.Nat.{ℕ, _+_, _-_, _*_, _/_, _≤_, _<_};
-ghost use lib.ListN.{length, getD};
+ghost use lib.ListN.{length, getD, drop};
 ghost use Rattle.hashing.specs.Lists.{bitAt, bits};
 ghost use Rattle.ring.specs.Bytes.{listOf};
 ghost use Rattle.ring.specs.Polynomials.{InRing, add};
@@ -75,8 +77,8 @@ fn byte(b: &[u8], i: usize) -> u8
     if i < b.len() { b[i] } else { 0 }
 }
 
-// The eight bytes from `at` on, the first one lowest.
-fn word_of(b: &[u8], at: usize) -> u64
+// The eight bytes from `at` on, the first one lowest, and 0 past the end.
+fn end_word(b: &[u8], at: usize) -> u64
     requires { ⌜ at < wordBytes ⌝ }
     ensures { λ r. ⌜ ((e : ℕ) → e < 64 → bitAt r e ≡ bits 8 (now (b .entry)) (8 * at + e)) ⌝ }
 {
@@ -87,6 +89,17 @@ fn word_of(b: &[u8], at: usize) -> u64
         w = (w << 8) | byte(b, at + m) as u64;
     }
     w
+}
+
+// The same, at once where eight are left.
+fn word_of(b: &[u8], at: usize) -> u64
+    requires { ⌜ at < wordBytes ⌝ }
+    ensures { λ r. ⌜ ((e : ℕ) → e < 64 → bitAt r e ≡ bits 8 (now (b .entry)) (8 * at + e)) ⌝ }
+{
+    if at + 8 <= b.len() {
+        return eight_bytes(b, at);
+    }
+    end_word(b, at)
 }
 
 // A polynomial from its bytes.
@@ -104,12 +117,27 @@ pub fn load(bytes: &[u8]) -> [u64; WORDS]
     a
 }
 
+// The bytes of whole words, as far as `out` has room for eight.
+fn store_words(a: &[u64], out: &mut [u8])
+    requires { ⌜ (length (now out) ≤ wordBytes) × (length (now a) ≡ words) ⌝ }
+    ensures { λ _. ⌜ now (out .exit) ≡ listOf 8 (8 * (length (now (out .entry)) / 8)) (bits 64 (now (a .entry)))
+        ++ drop (8 * (length (now (out .entry)) / 8)) (now (out .entry)) ⌝ }
+{
+    let n = out.len() / 8;
+    let mut i = 0;
+    while i < n {
+        lay_eight(a[i], out, 8 * i);
+        i += 1;
+    }
+}
+
 // A polynomial's bytes, as many as `out` holds.
 pub fn store(a: [u64; WORDS], out: &mut [u8])
     requires { ⌜ length (now out) ≤ wordBytes ⌝ }
     ensures { λ _. ⌜ now (out .exit) ≡ listOf 8 (length (now (out .entry))) (bits 64 a) ⌝ }
 {
-    let mut i = 0;
+    store_words(&a, out);
+    let mut i = 8 * (out.len() / 8);
     while i < out.len() {
         let s = 8 * (i % 8);
         out[i] = ((a[i / 8] >> s as u64) % 256) as u8;

@@ -1,15 +1,21 @@
 -- What more bytes do to a running hash, over any rate: they go into the open block, and a full block is permuted. Assumes nothing.
-use mathlib.Core.Path.{_≡_, refl, sym, ap, _∙_}
+use mathlib.Core.Path.{_≡_, refl, sym, ap, ap₂, _∙_}
 use mathlib.Core.List.{List, [], _∷_, _++_}
-use Prim.Native.Nat.{ℕ, zero, suc, _+_, _*_, _/_, _%_, _≤_, _<_}
+use Prim.Native.Nat.{ℕ, zero, suc, _+_, _*_, _/_, _%_, _^_, _≤_, _<_}
 use native.Mathlib.Nat.{add-zero, zero-add, suc-mul, le-of-eq, mod-lt, div-add-mod', mul-div-cancel, mul-mod-left}
+use native.Mathlib.Decide.{decLt}
 use native.Mathlib.Omega.{arith}
 use lib.Arith.{digits-div, digits-mod}
-use lib.ListN.{length, drop, length-append, length-take, length-drop, drop-of-length-le}
-use lib.Seq.{take-nil, take-all, take-append-le, drop-append-le}
+use lib.Bits.{bitXor, xor-zero-r}
+use lib.ListN.{length, getD, set, drop, length-append, length-take, length-drop, drop-of-length-le}
+use lib.Seq.{set-getD, set-set, set-out, getD-set-same, take-nil, take-all, take-append-le, drop-append-le}
 use Rattle.hashing.specs.declared.sponge.Sponge.{Sponge}
 use Rattle.hashing.specs.Keccak.{keccakF}
+use Rattle.hashing.specs.Lists.{tab}
+use Rattle.hashing.specs.inner.Parts.{laneOf}
 use Rattle.hashing.specs.inner.Running.{running}
+use Rattle.hashing.proofs.Lists.{length-tab}
+use Rattle.hashing.proofs.Words.{xor-assoc}
 use Rattle.hashing.specs.Sponge.{addByte, addBytes, block, absorbed}
 
 -- a hash by its fields
@@ -102,14 +108,57 @@ module _ (rate : ℕ) (pos : 0 < rate) (M D : List ℕ) where
         let all : length (M ++ D) ≤ length (M ++ D) / rate * rate = rw blocks (le-of-eq whole) in
         rw (past, drop-of-length-le (M ++ D) all, take-nil {A = ℕ} rate, absorbed-full)
 
--- one byte more
-module _ (rate : ℕ) (pos : 0 < rate) (M : List ℕ) (b : ℕ) {s : Sponge} (so-far : s ≡ running rate M) where
-  pub byte-within : s .place + 1 < rate
-      → held (addByte (s .lanes) (s .place) b) (s .place + 1) ≡ running rate (M ++ (b ∷ []))
-  unfolding running addBytes
-  byte-within h = rw so-far (sym (running-within rate pos M (b ∷ []) (rw so-far at h)))
+-- more bytes
+module _ (rate : ℕ) (pos : 0 < rate) (M D : List ℕ) {s : Sponge} (so-far : s ≡ running rate M) where
+  more-within : s .place + length D < rate
+      → held (addBytes (s .lanes) (s .place) D) (s .place + length D) ≡ running rate (M ++ D)
+  unfolding running
+  more-within h = rw so-far (sym (running-within rate pos M D (rw so-far at h)))
 
-  pub byte-full : s .place + 1 ≡ rate
-      → held (keccakF (addByte (s .lanes) (s .place) b)) 0 ≡ running rate (M ++ (b ∷ []))
-  unfolding running addBytes
-  byte-full h = rw so-far (sym (running-full rate pos M (b ∷ []) (rw so-far at h)))
+  more-full : s .place + length D ≡ rate → held (keccakF (addBytes (s .lanes) (s .place) D)) 0 ≡ running rate (M ++ D)
+  unfolding running
+  more-full h = rw so-far (sym (running-full rate pos M D (rw so-far at h)))
+
+-- bytes that are added within one lane are one number that is added to it
+lane-added : (S : List ℕ) (k n : ℕ) (b : ℕ → ℕ) → k % 8 + n ≤ 8
+    → addBytes S k (tab n b) ≡ set S (k / 8) (bitXor (getD S (k / 8) 0) (laneOf (k % 8) n b))
+unfolding addByte addBytes laneOf tab
+lane-added S k zero b fits = sym (ap (set S (k / 8)) (xor-zero-r (getD S (k / 8) 0)) ∙ set-getD S (k / 8) 0)
+lane-added S k (suc n) b fits =
+    addBytes-append S k (tab n b) (b n ∷ [])
+    ∙ ap₂ (λ (S : List ℕ) (m : ℕ). addByte S (k + m) (b n)) (lane-added S k n b (omega arith)) (length-tab n b) ∙ once
+  where
+    q : ℕ
+    q = k / 8
+
+    so-far : ℕ
+    so-far = bitXor (getD S q 0) (laneOf (k % 8) n b)
+
+    last : ℕ
+    last = b n * 2 ^ (8 * (k % 8 + n))
+
+    twice : Dec (q < length S) → set S q (bitXor (getD (set S q so-far) q 0) last) ≡ set S q (bitXor (getD S q 0) (bitXor (laneOf (k % 8) n b) last))
+    twice (yes room) =
+        rw (getD-set-same S q so-far 0 room) (ap (set S q) (xor-assoc (getD S q 0) (laneOf (k % 8) n b) last))
+    twice (no out) = set-out S q _ (omega arith) ∙ sym (set-out S q _ (omega arith))
+
+    once : addByte (set S q so-far) (k + n) (b n) ≡ set S q (bitXor (getD S q 0) (bitXor (laneOf (k % 8) n b) last))
+    once =
+        let same : (k + n) / 8 ≡ q = omega arith in
+        let place : (k + n) % 8 ≡ k % 8 + n = omega arith in
+        rw (same, place, set-set) (twice (decLt q (length S)))
+
+-- as many as go into one lane
+abbrev pub added : ℕ → (ℕ → ℕ) → Sponge → List ℕ
+added n b s = set (s .lanes) (s .place / 8) (bitXor (getD (s .lanes) (s .place / 8) 0) (laneOf (s .place % 8) n b))
+
+module _ (rate : ℕ) (pos : 0 < rate) (M : List ℕ) (n : ℕ) (b : ℕ → ℕ) {s : Sponge} (so-far : s ≡ running rate M)
+    (fits : s .place % 8 + n ≤ 8) where
+  pub part-within : s .place + n < rate → held (added n b s) (s .place + n) ≡ running rate (M ++ tab n b)
+  part-within h =
+      rw (← lane-added (s .lanes) (s .place) n b fits)
+      (rw (length-tab n b) at (more-within rate pos M (tab n b) so-far (rw (length-tab n b) h)))
+
+  pub part-full : s .place + n ≡ rate → held (keccakF (added n b s)) 0 ≡ running rate (M ++ tab n b)
+  part-full h =
+      rw (← lane-added (s .lanes) (s .place) n b fits) (more-full rate pos M (tab n b) so-far (rw (length-tab n b) h))

@@ -2,9 +2,8 @@
 use mathlib.Core.Path.{_≡_, ap, _∙_}
 use mathlib.Core.List.{List, _++_}
 use Prim.Native.Nat.{ℕ, zero, suc, _+_, _-_, _*_, _/_, _%_, _^_, _≤_, _<_}
-use native.Mathlib.Nat.{zero-mul, zero-div, zero-mod, suc-mul, mod-lt, div-add-mod', mul-div-cancel, mul-mod-left}
+use native.Mathlib.Nat.{add-suc, zero-mul, zero-div, zero-mod, suc-mul, mod-lt, div-add-mod', mul-div-cancel, mul-mod-left}
 use native.Mathlib.Decide.{decLt}
-use native.Mathlib.Numerals.{add-one}
 use native.Mathlib.Omega.{arith}
 use lib.Arith.{digits-div, digits-mod}
 use lib.Dec.{lit<}
@@ -93,15 +92,28 @@ module _ (rate : ℕ) (pos : 0 < rate) where
   next-block suffix M zero e h = let none : 0 ≡ rate = rw e at h in absurd (omega arith)
   next-block suffix M (suc k) e h = let next = next-full k (rw e at h) in rw (next .0, next .1, e)
 
--- with its block at hand, the next byte is squeezed
-module _ (rate suffix : ℕ) (M : List ℕ) (n : ℕ) {s : Sponge} (at-hand : s ≡ ready rate suffix M n) where
-  pub ready-byte : byteOf (s .lanes) (s .place) ≡ byteAt rate (soaked rate suffix M) n
-  unfolding byteAt
-  ready-byte = rw at-hand
+-- with its block at hand, the next bytes of the block are squeezed
+module _ (rate : ℕ) (suffix : ℕ) (M : List ℕ) (n : ℕ) {s : Sponge} (at-hand : s ≡ ready rate suffix M n) where
+  within : (m : ℕ) → s .place + m < rate → ((n + m) / rate ≡ n / rate) × ((n + m) % rate ≡ s .place + m)
+  within m h =
+      let here : s .place ≡ n % rate = ap (λ (s : Sponge). s .place) at-hand in
+      let size : n + m ≡ n / rate * rate + (s .place + m) = omega (arith, div-add-mod' n rate) in
+      rw size (digits-div (n / rate) h, digits-mod (n / rate) h)
 
-  pub ready-drawn : held (s .lanes) (s .place + 1) ≡ drawn rate suffix M (n + 1)
+  pub ready-byte : (m : ℕ) → s .place + m < rate → s .place % 8 + m < 8
+      → getD (s .lanes) (s .place / 8) 0 / 2 ^ (8 * (s .place % 8 + m)) % 256 ≡ byteAt rate (soaked rate suffix M) (n + m)
+  unfolding byteAt byteOf
+  ready-byte m h fits =
+      let lane : (s .place + m) / 8 ≡ s .place / 8 = omega arith in
+      let place : (s .place + m) % 8 ≡ s .place % 8 + m = omega arith in
+      rw (within m h .0, within m h .1, lane, place) (ap (λ (t : Sponge). getD (t .lanes) (s .place / 8) 0 / 2 ^ (8 * (s .place % 8 + m)) % 256) at-hand)
+
+  pub ready-drawn : (m : ℕ) → 0 < m → s .place + m ≤ rate → held (s .lanes) (s .place + m) ≡ drawn rate suffix M (n + m)
   unfolding drawn
-  ready-drawn = rw (at-hand, add-one n, add-one (n % rate))
+  ready-drawn zero none h = absurd (omega arith)
+  ready-drawn (suc m) some h =
+      let at = within m (omega arith) in
+      rw (add-suc n m, at .0, at .1, add-suc (s .place) m) (ap (λ (t : Sponge). held (t .lanes) (suc (s .place + m))) at-hand)
 
 -- the two hashes
 pub shake256-length : (M : List ℕ) (n : ℕ) → length (shake256 M n) ≡ n

@@ -3,8 +3,8 @@ use native.Mathlib.Omega.{arith}
 use Prim.Native.Nat.{_+_, _*_, _≤_}
 use lib.Pow.{shl-exact}
 use borrow.Author.Needs.{needs}
-use Rattle.hashing.proofs.sponge.byte_in.Statement.{statement}
-use Rattle.hashing.proofs.sponge.byte_in.Tie as tie
+use Rattle.hashing.proofs.lanes.byte_in.Statement.{statement}
+use Rattle.hashing.proofs.lanes.byte_in.Tie as tie
 
 returns : tie.Need-returns
 returns c =
