@@ -21,24 +21,28 @@ fn moved(r: usize, at: usize, by: usize) -> usize
     if next < r { next } else { next - r }
 }
 
-// Half of h modulo an odd r.
-fn half(r: usize, h: usize) -> usize
-    requires { ⌜ (r % 2 ≡ 1) × (h < r) × (r < wordBits) ⌝ }
-    ensures { λ n. ⌜ (n < r) × ((2 * n) % r ≡ h) ⌝ }
+// A product modulo r.
+fn times(r: usize, h: usize, p: usize) -> usize
+    requires { ⌜ (h < r) × (p < r) × (r < wordBits) ⌝ }
+    ensures { λ n. ⌜ n ≡ (h * p) % r ⌝ }
 {
-    if h % 2 == 0 { h / 2 } else { (h + r) / 2 }
+    h * p % r
 }
 
-// The inverse of 2^k modulo an odd r.
+// The inverse of 2^k modulo an odd r, by k's binary digits: p is the inverse of 2^s for the digit of value s.
 fn halved(r: usize, k: usize) -> usize
     requires { ⌜ (r % 2 ≡ 1) × (1 < r) × (r < wordBits) ⌝ }
     ensures { λ n. ⌜ (n < r) × ((2 ^ k * n) % r ≡ 1) ⌝ }
 {
     let mut h = 1;
-    let mut j = 0;
-    while j < k {
-        h = half(r, h);
-        j += 1;
+    let mut p = (r + 1) / 2;
+    let mut j = k;
+    while 0 < j {
+        if j % 2 == 1 {
+            h = times(r, h, p);
+        }
+        p = times(r, p, p);
+        j /= 2;
     }
     h
 }

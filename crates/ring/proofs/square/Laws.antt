@@ -2,14 +2,16 @@
 use mathlib.Core.Path.{_≡_, refl, sym, ap, ap₂, _∙_}
 use mathlib.Core.Bool.{Bool, true, false, _||_, or-false}
 use Prim.Native.Nat.{ℕ, zero, suc, _+_, _-_, _*_, _%_, _^_, _≤_, _<_}
-use native.Mathlib.Nat.{add-mod-mod, add-mul-mod-self-right, mod-add-mod, add-mul, mul-add, mul-comm, mul-one, mul-zero, add-assoc, zero-mod, zero-lt-suc}
+use native.Mathlib.Nat.{add-mod-mod, add-mul-mod-self-right, mod-add-mod, add-mul, mul-add, mul-assoc, mul-comm, mul-one, mul-zero, add-assoc, zero-mod, zero-lt-suc}
 use native.Mathlib.Numerals.{add-one}
 use native.Mathlib.Omega.{arith}
 use lib.Bits.{bitOr, or-shifted}
 use lib.Dec.{lit<}
+use lib.Pow.{pow-add}
 use Rattle.hashing.specs.Lists.{bitAt}
 use Rattle.hashing.proofs.Words.{bit-or, bit-mod, bit-shl, bit-shl-below, bit-above}
 use Rattle.ring.specs.Polynomials.{bit}
+use Rattle.ring.proofs.Powers.{mul-mod-mod}
 
 pub bit-small : (b : Bool) → bit b < 2
 bit-small true = lit< tt
@@ -74,6 +76,19 @@ pub circle-stride : (r n j : ℕ) → ((n * j) % r + (64 * n) % r) % r ≡ (n * 
 circle-stride r n j =
     mod-add-mod (n * j) r ((64 * n) % r) ∙ add-mod-mod (n * j) (64 * n) r
     ∙ ap (λ (p : ℕ). p % r) (rw (mul-add n j 64, mul-comm 64 n))
+
+-- inverses of powers of 2, multiplied, are the inverse of their product
+pub halves-times : (r i s h p : ℕ) → (2 ^ i * h) % r ≡ 1 → (2 ^ s * p) % r ≡ 1 → (2 ^ (i + s) * ((h * p) % r)) % r ≡ 1
+halves-times r i s h p first second =
+    mul-mod-mod (2 ^ (i + s)) (h * p) r ∙ ap (λ (n : ℕ). n % r) apart ∙ sym (mul-mod-mod (2 ^ i * h) (2 ^ s * p) r)
+    ∙ rw (second, mul-one (2 ^ i * h)) first
+  where
+    inner : 2 ^ s * (h * p) ≡ h * (2 ^ s * p)
+    inner = sym (mul-assoc (2 ^ s) h p) ∙ ap (λ (n : ℕ). n * p) (mul-comm (2 ^ s) h) ∙ mul-assoc h (2 ^ s) p
+
+    apart : 2 ^ (i + s) * (h * p) ≡ 2 ^ i * h * (2 ^ s * p)
+    apart =
+        rw (pow-add 2 i s) (mul-assoc (2 ^ i) (2 ^ s) (h * p) ∙ ap (λ (n : ℕ). 2 ^ i * n) inner ∙ sym (mul-assoc (2 ^ i) h (2 ^ s * p)))
 
 -- a factor of 1 is not 0
 pub unit-pos : (r m n : ℕ) → (m * n) % r ≡ 1 → 0 < n
