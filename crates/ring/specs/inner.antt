@@ -1,3 +1,4 @@
+pub mod Even
 pub mod Held
 pub mod Ones
 pub mod Rows

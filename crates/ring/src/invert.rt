@@ -1,6 +1,7 @@
 // The inverse of a as a^(2^(r-1) - 2), by a chain of products, and one product more to see whether it is one.
 use crate::frame::is_zero;
 use crate::size::WORDS;
+use crate::square::once;
 use crate::square::squared;
 use crate::times::MANY;
 use crate::times::times;
@@ -67,7 +68,7 @@ fn power(r: usize, a: [u64; WORDS], ones: usize) -> [u64; WORDS]
         x = next;
         ones_x = MANY;
     }
-    squared(r, x, 1)
+    once(r, x)
 }
 
 fn is_one(x: [u64; WORDS]) -> bool

@@ -1,4 +1,5 @@
 // The ring of document 01: the level table, polynomials over words, product and inverse.
+mod even;
 pub mod frame;
 pub mod invert;
 pub mod layout;

@@ -21,7 +21,7 @@ const EMPTY: usize = 64 * 2 * WORDS;
 const WINDOWED: usize = 3 * WORDS + 1;
 
 // The 64 bits from bit s on of two words in a row. (No shift is by 64, s = 0 included.)
-fn join(low: u64, high: u64, s: usize) -> u64
+pub fn join(low: u64, high: u64, s: usize) -> u64
     requires { ⌜ s < 64 ⌝ }
     ensures { λ w. ⌜ ((e : ℕ) → e < 64 → bitAt w e ≡ bits 64 (low ∷ high ∷ []) (s + e)) ⌝ }
 {

@@ -1,9 +1,12 @@
 // k squarings at once: the exponents are multiplied by 2^k modulo r, so with n the inverse of 2^k modulo r, bit j of the result is
 // bit n j mod r of x.
+use crate::even::alternate;
 use crate::frame::cut;
 use crate::frame::zeros;
 use crate::size::WORDS;
+use crate::sparse::join;
 use crate::unpack::unpacked;
+use crate::words::word;
 ghost use mathlib.Core.Path.{_≡_};
 ghost use Prim.Native.Nat.{ℕ, _+_, _-_, _*_, _/_, _%_, _^_, _≤_, _<_};
 ghost use lib.ListN.{length, getD};
@@ -92,9 +95,50 @@ fn permuted(r: usize, x: [u64; WORDS], n: usize) -> [u64; WORDS]
     y
 }
 
+// The 32 bits from bit `at` on.
+fn half_word(x: &[u64], at: usize) -> u64
+    ensures { λ w. ⌜ (w < 2 ^ 32) × ((e : ℕ) → e < 32 → bitAt w e ≡ bits 64 (now (x .entry)) (at + e)) ⌝ }
+{
+    let i = at / 64;
+    join(word(x, i), word(x, i + 1), at % 64) % 4294967296
+}
+
+// One squaring: bit 2 j of the square is bit j, and bit 2 j + 1 is bit j + (r + 1) / 2.
+pub fn once(r: usize, x: [u64; WORDS]) -> [u64; WORDS]
+    requires { ⌜ (r % 2 ≡ 1) × (1 < r) × (r < wordBits) ⌝ }
+    ensures { λ y. ⌜ bits 64 y ≡ spread r 2 (bits 64 x) ⌝ }
+{
+    let middle = (r + 1) / 2;
+    let mut y = zeros();
+    let mut i = 0;
+    while i <= r / 64 {
+        y[i] = alternate(half_word(&x, 32 * i), half_word(&x, middle + 32 * i));
+        i += 1;
+    }
+    cut(r, y)
+}
+
+// k squarings, one after another: for few of them this costs less than to bring each bit to its place.
+fn repeated(r: usize, x: [u64; WORDS], k: usize) -> [u64; WORDS]
+    requires { ⌜ (r % 2 ≡ 1) × (1 < r) × (r < wordBits) × (0 < k) ⌝ }
+    ensures { λ y. ⌜ bits 64 y ≡ spread r (2 ^ k) (bits 64 x) ⌝ }
+{
+    let mut y = once(r, x);
+    let mut j = 1;
+    while j < k {
+        let next = once(r, y);
+        y = next;
+        j += 1;
+    }
+    y
+}
+
 pub fn squared(r: usize, x: [u64; WORDS], k: usize) -> [u64; WORDS]
     requires { ⌜ (r % 2 ≡ 1) × (1 < r) × (r < wordBits) ⌝ }
     ensures { λ y. ⌜ bits 64 y ≡ spread r (2 ^ k) (bits 64 x) ⌝ }
 {
+    if (0 < k) & (k <= 12) {
+        return repeated(r, x, k);
+    }
     cut(r, permuted(r, x, halved(r, k)))
 }

@@ -1,8 +1,9 @@
 -- What a squaring rests on: bits taken in at the low end of a word, and places in a circle. Assumes nothing.
 use mathlib.Core.Path.{_≡_, refl, sym, ap, ap₂, _∙_}
 use mathlib.Core.Bool.{Bool, true, false, _||_, or-false}
-use Prim.Native.Nat.{ℕ, zero, suc, _+_, _-_, _*_, _%_, _^_, _≤_, _<_}
-use native.Mathlib.Nat.{add-mod-mod, add-mul-mod-self-right, mod-add-mod, add-mul, mul-add, mul-assoc, mul-comm, mul-one, mul-zero, add-assoc, zero-mod, zero-lt-suc}
+use Prim.Native.Nat.{ℕ, zero, suc, _+_, _-_, _*_, _/_, _%_, _^_, _≤_, _<_}
+use native.Mathlib.Nat.{add-mod-mod, add-mul-mod-self-right, mod-add-mod, add-mul, mul-add, mul-assoc, mul-comm, mul-one, mul-zero, mod-eq-of-lt, one-mul, zero-mul, add-assoc, zero-mod, zero-lt-suc}
+use native.Mathlib.Decide.{ℕ-discrete}
 use native.Mathlib.Numerals.{add-one}
 use native.Mathlib.Omega.{arith}
 use lib.Bits.{bitOr, or-shifted}
@@ -89,6 +90,34 @@ halves-times r i s h p first second =
     apart : 2 ^ (i + s) * (h * p) ≡ 2 ^ i * h * (2 ^ s * p)
     apart =
         rw (pow-add 2 i s) (mul-assoc (2 ^ i) (2 ^ s) (h * p) ∙ ap (λ (n : ℕ). 2 ^ i * n) inner ∙ sym (mul-assoc (2 ^ i) h (2 ^ s * p)))
+
+-- half of 1 modulo an odd r, and half of a place in the circle
+pub half-unit : (r : ℕ) → r % 2 ≡ 1 → 1 < r → (2 * ((r + 1) / 2)) % r ≡ 1
+half-unit r odd more =
+    let twice : 2 * ((r + 1) / 2) ≡ 1 + 1 * r = omega arith in
+    ap (λ (n : ℕ). n % r) twice ∙ add-mul-mod-self-right 1 1 r ∙ mod-eq-of-lt more
+
+pub half-place : (r k : ℕ) → r % 2 ≡ 1 → k < r → ((r + 1) / 2 * k) % r ≡ k / 2 + k % 2 * ((r + 1) / 2)
+half-place r k odd below =
+    ap (λ (n : ℕ). n % r) whole ∙ add-mul-mod-self-right (k / 2 + k % 2 * m) (k / 2) r ∙ mod-eq-of-lt (inside (ℕ-discrete (k % 2) 0))
+  where
+    m : ℕ
+    m = (r + 1) / 2
+
+    whole : m * k ≡ k / 2 + k % 2 * m + k / 2 * r
+    whole =
+        let parts : k ≡ k / 2 + k / 2 + k % 2 = omega arith in
+        let twice : m + m ≡ r + 1 = omega arith in
+        let turns : m * (k / 2) + m * (k / 2) ≡ k / 2 * r + k / 2 =
+        sym (add-mul m m (k / 2)) ∙ ap (λ (n : ℕ). n * (k / 2)) twice ∙ mul-comm (r + 1) (k / 2) ∙ mul-add (k / 2) r 1 ∙ ap (λ (n : ℕ). k / 2 * r + n) (mul-one (k / 2)) in
+        ap (λ (n : ℕ). m * n) parts ∙ omega (arith, mul-add m (k / 2 + k / 2) (k % 2), mul-add m (k / 2) (k / 2), turns, mul-comm m (k % 2))
+
+    inside : Dec (k % 2 ≡ 0) → k / 2 + k % 2 * m < r
+    inside (yes even) = let none : k % 2 * m ≡ 0 = ap (λ (n : ℕ). n * m) even ∙ zero-mul m in omega (arith, none)
+    inside (no other) =
+        let one : k % 2 ≡ 1 = omega arith in
+        let once : k % 2 * m ≡ m = ap (λ (n : ℕ). n * m) one ∙ one-mul m in
+        omega (arith, once)
 
 -- a factor of 1 is not 0
 pub unit-pos : (r m n : ℕ) → (m * n) % r ≡ 1 → 0 < n

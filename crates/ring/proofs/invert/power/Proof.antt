@@ -43,7 +43,7 @@ unfolding chain climb digits
 returns c =
     let was = c .before .before .loop in
     let end : was .n ≡ 0 = omega arith in
-    c .squared .ensures ∙ ap (λ (e : Rung). spread (c .before .before .before .before .args .r) 2 (e .value)) (rw end at (was .inv .3))
+    c .once .ensures ∙ ap (λ (e : Rung). spread (c .before .before .before .before .args .r) 2 (e .value)) (rw end at (was .inv .3))
 
 pub power-spec : {M : Type 1} → statement M
 power-spec =

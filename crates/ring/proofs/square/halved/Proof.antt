@@ -2,10 +2,10 @@
 use mathlib.Core.Path.{_≡_, sym, ap, _∙_}
 use mathlib.Core.Logic.{⊎-elim}
 use Prim.Native.Nat.{ℕ, _+_, _*_, _/_, _%_, _^_, _<_}
-use native.Mathlib.Nat.{mod-eq-of-lt, mod-lt, add-mul, add-mul-mod-self-right, mul-add, mul-one, mul-zero}
+use native.Mathlib.Nat.{mod-eq-of-lt, mod-lt, add-mul, mul-add, mul-one, mul-zero}
 use native.Mathlib.Omega.{arith}
 use borrow.Author.Needs.{needs}
-use Rattle.ring.proofs.square.Laws.{halves-times}
+use Rattle.ring.proofs.square.Laws.{halves-times, half-unit}
 use Rattle.ring.proofs.square.halved.Statement.{statement}
 use Rattle.ring.proofs.square.halved.Tie as tie
 
@@ -83,15 +83,12 @@ loop-again c =
 -- half of r + 1 is half of 1
 loop-holds : tie.Need-loop-holds Inv-loop μ-loop
 loop-holds c =
-    let r = c .args .r in
-    let twice : 2 * ((r + 1) / 2) ≡ 1 + 1 * r = omega arith in
     record {
       low = 0;
       value = 1;
       all = omega arith;
       first = record { below = omega arith; inverts = mod-eq-of-lt (omega arith) };
-      second =
-          record { below = omega arith; inverts = ap (λ (n : ℕ). n % r) twice ∙ add-mul-mod-self-right 1 1 r ∙ mod-eq-of-lt (omega arith) };
+      second = record { below = omega arith; inverts = half-unit (c .args .r) (omega arith) (omega arith) };
     }
 
 returns : tie.Need-returns Inv-loop μ-loop
