@@ -1,8 +1,8 @@
 -- Lists of words as bits: zeros, a word that is stored, and a list that is filled word by word. Assumes nothing.
-use mathlib.Core.Path.{_≡_, refl, sym, ap, fun-ext, _∙_}
+use mathlib.Core.Path.{_≡_, refl, sym, ap, ap₂, fun-ext, _∙_}
 use mathlib.Core.Bool.{Bool, false}
 use mathlib.Core.List.{List}
-use Prim.Native.Nat.{ℕ, _+_, _*_, _/_, _%_, _^_, _≤_, _<_}
+use Prim.Native.Nat.{ℕ, suc, _+_, _*_, _/_, _%_, _^_, _≤_, _<_}
 use native.Mathlib.Decide.{decLt, ℕ-discrete}
 use native.Mathlib.Omega.{arith}
 use lib.Bits.{bitXor}
@@ -12,10 +12,23 @@ use lib.Seq.{getD-set-same, getD-set-other}
 use Rattle.ring.proofs.Parity.{xor-flip}
 use Rattle.hashing.specs.Lists.{bitAt, bits}
 use Rattle.hashing.proofs.Words.{bit-xor, bit-zero, bit-ext, bits-at}
-use Rattle.ring.specs.Polynomials.{Poly, flip}
+use Rattle.ring.specs.Polynomials.{Poly, flip, parity}
 
 pub bit-flip : (x y k : ℕ) → bitAt (bitXor x y) k ≡ flip (bitAt x k) (bitAt y k)
 bit-flip x y k = bit-xor x y k ∙ xor-flip (bitAt x k) (bitAt y k)
+
+-- the sum of n words, one after another, where bit e of word m is f m e
+pub record Sum (f : ℕ → ℕ → Bool) (n s : ℕ) : Type 0 where
+  pub bit : (e : ℕ) → e < 64 → bitAt s e ≡ parity n (λ m. f m e)
+
+module _ (f : ℕ → ℕ → Bool) where
+  pub sum-one : {y : ℕ} → ((e : ℕ) → e < 64 → bitAt y e ≡ f 0 e) → Sum f 1 y
+  unfolding parity
+  sum-one h = record { bit = h }
+
+  pub sum-more : {n s : ℕ} (y : ℕ) → Sum f n s → ((e : ℕ) → e < 64 → bitAt y e ≡ f n e) → Sum f (suc n) (bitXor s y)
+  unfolding parity
+  sum-more {n} {s} y before h = record { bit = λ e below. bit-flip s y e ∙ ap₂ flip (before .bit e below) (h e below) }
 
 -- a list has no bit set where its elements are 0, and its elements are 0 where it has none
 pub bits-none : (xs : List ℕ) → ((i : ℕ) → i < length xs → getD xs i 0 ≡ 0) → bits 64 xs ≡ (λ k. false)

@@ -1,7 +1,7 @@
 -- Exclusive or, and the parity of how many numbers below a bound a test holds for: finite sums over two elements. Assumes nothing.
 use mathlib.Core.Path.{_≡_, refl, sym, ap, ap₂, _∙_}
 use mathlib.Core.Bool.{Bool, true, false, xor}
-use Prim.Native.Nat.{ℕ, zero, suc, _+_, _≤_, _<_}
+use Prim.Native.Nat.{ℕ, zero, suc, _+_, _-_, _≤_, _<_}
 use native.Mathlib.Nat.{le-refl, not-suc-le-zero, add-zero, add-suc}
 use native.Mathlib.Decide.{ℕ-discrete, decLt}
 use native.Mathlib.Omega.{arith}
@@ -155,6 +155,14 @@ unfolding parity
 parity-split m zero f = rw add-zero (sym (flip-false (parity m f)))
 parity-split m (suc n) f =
     rw (add-suc m n, parity-split m n f) (flip-assoc (parity m f) (parity n (λ i. f (m + i))) (f (m + n)))
+
+-- of n only the first m count, where f fails from m on
+pub parity-past : (m n : ℕ) (f : ℕ → Bool) → m ≤ n → ((i : ℕ) → m ≤ i → i < n → f i ≡ false) → parity n f ≡ parity m f
+parity-past m n f more past =
+    let all : m + (n - m) ≡ n = omega arith in
+    ap (λ (k : ℕ). parity k f) (sym all) ∙ parity-split m (n - m) f
+    ∙ ap (flip (parity m f)) (parity-none (n - m) (λ i. f (m + i)) (λ i below. past (m + i) (omega arith) (omega arith)))
+    ∙ flip-false (parity m f)
 
 -- where f holds at m at most
 pub parity-at : (n m : ℕ) (f : ℕ → Bool) → m < n → ((i : ℕ) → i < n → (i ≡ m → ⊥) → f i ≡ false) → parity n f ≡ f m

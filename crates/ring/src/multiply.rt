@@ -92,7 +92,7 @@ fn entry(t: &[u64], o: usize, i: usize) -> u64
 // The sum of word i of eight rows.
 fn eight(t: &[u64], o: [usize; 8], i: usize) -> u64
     requires { ⌜ ((m : ℕ) → m < 8 → getD o m 0 + i < length (now t)) ⌝ }
-    ensures { λ r. ⌜ ((e : ℕ) → bitAt r e ≡ parity 8 (λ m. bitAt (getD (now (t .entry)) (getD o m 0 + i) 0) e)) ⌝ }
+    ensures { λ r. ⌜ ((e : ℕ) → e < 64 → bitAt r e ≡ parity 8 (λ m. bitAt (getD (now (t .entry)) (getD o m 0 + i) 0) e)) ⌝ }
 {
     entry(t, o[0], i)
         ^ entry(t, o[1], i)

@@ -7,11 +7,9 @@ use Prim.Native.Nat.{ℕ, zero, suc, _+_, _-_, _*_, _/_, _%_, _^_, _≤_, _<_, z
 use native.Mathlib.Nat.{not-suc-le-zero, le-of-suc-le-suc, add-comm, add-assoc, zero-add, sub-zero, mod-lt}
 use native.Mathlib.Decide.{decLt}
 use native.Mathlib.Omega.{arith}
-use lib.Bits.{bitXor}
 use lib.Dec.{lit<}
 use lib.ListN.{length, getD}
 use Rattle.ring.proofs.Ring.{mul-in}
-use Rattle.ring.proofs.Packed.{bit-flip}
 use Rattle.hashing.specs.Lists.{tab, bitAt, bits}
 use Rattle.hashing.proofs.Lists.{getD-tab}
 use Rattle.hashing.proofs.Words.{bit-zero, bit-above, bit-mod, bit-shr, bits-at}
@@ -21,20 +19,6 @@ use Rattle.ring.specs.inner.Sizes.{words, rowWords, tableWords, firstRow
 use Rattle.ring.proofs.Parity.{flip-comm, flip-false, parity-flip, parity-none, parity-ext, parity-split}
 use Rattle.ring.proofs.Shifts.{shifted-below, shifted-from, shifted-past, shifted-swap, shifted-flip, shifted-parity, shifted-none, wide-split, wide-ext, wide-none, wide-in, wide-more, wide-blocks, mul-wide}
 use Rattle.ring.proofs.words.Laws.{placed}
-
--- ---- the sum of n words, one after another
-
-pub record Sum (f : ℕ → ℕ) (n s : ℕ) : Type 0 where
-  pub bit : (e : ℕ) → bitAt s e ≡ parity n (λ m. bitAt (f m) e)
-
-pub sum-one : {f : ℕ → ℕ} {y : ℕ} → y ≡ f 0 → Sum f 1 y
-unfolding parity
-sum-one h = record { bit = λ e. ap (λ (y : ℕ). bitAt y e) h }
-
-pub sum-more : {f : ℕ → ℕ} {n s y : ℕ} → Sum f n s → y ≡ f n → Sum f (suc n) (bitXor s y)
-unfolding parity
-sum-more {f} {n} {s} {y} before h =
-    record { bit = λ e. bit-flip s y e ∙ ap₂ flip (before .bit e) (ap (λ (y : ℕ). bitAt y e) h) }
 
 -- ---- the table of multiples
 

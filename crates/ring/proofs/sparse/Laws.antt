@@ -13,13 +13,13 @@ use borrow.Author.Tests.{leb-true, leb-false, le-leb, lt-leb}
 use mir.Val.{boolByte}
 use lib.Bits.{bitOr, bitXor}
 use lib.Dec.{leb}
-use lib.ListN.{length, getD, set, take}
+use lib.ListN.{length, getD, set, replicate, take, getD-replicate}
 use lib.Pow.{pow-add}
 use lib.Seq.{getD-set-same, getD-set-other, take-suc}
 use Rattle.hashing.specs.Lists.{bitAt, bits}
 use Rattle.hashing.proofs.Words.{bit-or, bit-mod, bit-shl, bit-shl-below, bit-shr, bits-at, bit-above}
 use Rattle.ring.specs.Polynomials.{Poly, InRing, flip, parity, over, power, add, terms, mul}
-use Rattle.ring.specs.inner.Sizes.{wordBits, emptyWindow}
+use Rattle.ring.specs.inner.Sizes.{wordBits, mostStarts, emptyWindow}
 use Rattle.ring.specs.inner.Upper.{upper}
 use Rattle.ring.specs.inner.Windows.{Start, window, UpperStart}
 use Rattle.ring.proofs.Parity.{flip-assoc, flip-false, parity-false}
@@ -162,6 +162,10 @@ upper-is-start r p from start = go (decLt p r)
     go (yes low) = inr (start .1 low)
     go (no high) = let at = start .0 (omega arith) in inl (omega arith)
 
+-- none is stored yet
+pub starts-empty : {from : List ℕ} → from ≡ replicate mostStarts emptyWindow → (j : ℕ) → j < mostStarts → getD from j 0 ≡ emptyWindow
+starts-empty none j room = ap (λ (xs : List ℕ). getD xs j 0) none ∙ getD-replicate mostStarts j emptyWindow 0 room
+
 -- a start more is stored
 pub start-more : (P : ℕ → ℕ → Type 0) (from : List ℕ) (i v : ℕ) → i < length from → ((j : ℕ) → j < i → P j (getD from j 0)) → P i v
     → (j : ℕ) → j < i + 1 → P j (getD (set from i v) j 0)
@@ -169,6 +173,11 @@ start-more P from i v room before here =
     below-more (λ j. P j (getD (set from i v) j 0)) i
     (λ j h. rw (getD-set-other from i j v 0 (λ e. omega arith)) (before j h))
     (rw (getD-set-same from i v 0 room) here)
+
+-- and the rest stays empty
+pub start-rest : (from : List ℕ) (i v : ℕ) → ((j : ℕ) → i ≤ j → j < mostStarts → getD from j 0 ≡ emptyWindow)
+    → (j : ℕ) → i + 1 ≤ j → j < mostStarts → getD (set from i v) j 0 ≡ emptyWindow
+start-rest from i v rest j past room = getD-set-other from i j v 0 (λ e. omega arith) ∙ rest j (omega arith) room
 
 -- the word of r is filled up from the first
 module _ (r : ℕ) (xs : List ℕ) (room : r / 64 < length xs) (big : 64 ≤ r) (inside : InRing r (bits 64 xs)) where

@@ -32,6 +32,10 @@ windowWords = 3 * words + 1
 abbrev pub rowsBits : ℕ
 rowsBits = 3 * wordBits
 
+-- the starts of the sparse product's windows, in passes of eight
+abbrev pub mostStarts : ℕ
+mostStarts = 8 * ((mostT + 7) / 8)
+
 -- The dense product: a row of its table has one word more than a polynomial, and 7 words of 0 on each side; where row 1 has
 -- the polynomial; the passes of eight words; the words of a product before it is reduced.
 abbrev pub rowWords : ℕ

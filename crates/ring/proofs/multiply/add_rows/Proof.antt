@@ -41,7 +41,7 @@ loop-again c =
           ∙ ap₂ flip
           (ap (λ (y : ℕ). bitAt y e) (l .inv .2 (a .j + l .i) (inr (le-refl (a .j + l .i))))
           ∙ sym (bits-at 64 (a .x .now) (a .j + l .i) e (omega arith) h))
-          (c .eight .ensures e
+          (c .eight .ensures e h
           ∙ parity-ext 8 {f = λ m. bitAt (getD (a .t .now) (getD (a .o) m 0 + l .i) 0) e} {g = λ m. bits 64 (a .t .now) (64 * getD (a .o) m 0 + (64 * l .i + e))}
           (λ m below. sym (bits-at 64 (a .t .now) (getD (a .o) m 0 + l .i) e (omega arith) h)))),
     )

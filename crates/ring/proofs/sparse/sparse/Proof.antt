@@ -14,8 +14,8 @@ windows-requires : tie.Need-windows-requires
 windows-requires c κs =
     let made = c .before .starts in
     let start = c .before .before .before in
-    let low : (i : ℕ) → i < start .args .count → getD (made .result) i 0 ≤ start .args .r = λ i more. omega (arith, made .ensures i more) in
-    (omega arith, (start .pre .1 .0, λ i more. inl (low i more)))
+    let low : (i : ℕ) → i < start .args .count → getD (made .result) i 0 ≤ start .args .r = λ i more. omega (arith, made .ensures .0 i more) in
+    (omega arith, (start .pre .1 .0, ((λ i more. inl (low i more)), made .ensures .1)))
 
 returns : tie.Need-returns
 returns c =
@@ -24,7 +24,7 @@ returns c =
     let ps = start .args .positions .now in
     let x = bits 64 (start .args .x) in
     windows-product (start .args .r) (omega arith) x (start .args .count) (λ i. getD (made .result) i 0) (λ i. take i ps) refl
-    (λ k i below more. term-more (start .args .r) (omega arith) ps i (getD (made .result) i 0) x k (omega arith) (start .pre .1 .1 i more) below (made .ensures i more))
+    (λ k i below more. term-more (start .args .r) (omega arith) ps i (getD (made .result) i 0) x k (omega arith) (start .pre .1 .1 i more) below (made .ensures .0 i more))
     (c .windows .ensures .0)
     (c .windows .ensures .1)
 

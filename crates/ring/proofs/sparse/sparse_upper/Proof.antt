@@ -13,7 +13,7 @@ windows-requires : tie.Need-windows-requires
 windows-requires c κs =
     let made = c .before .upper-starts in
     let start = c .before .before .before in
-    (omega arith, (start .pre .1 .0, λ i more. upper-is-start (start .args .r) _ _ (made .ensures i more)))
+    (omega arith, (start .pre .1 .0, ((λ i more. upper-is-start (start .args .r) _ _ (made .ensures .0 i more)), made .ensures .1)))
 
 returns : tie.Need-returns
 unfolding upper
@@ -24,7 +24,7 @@ returns c =
     let x = bits 64 (start .args .x) in
     windows-product (start .args .r) (omega arith) x (start .args .count) (λ i. getD (made .result) i 0) (λ i. upper (start .args .r) (take i ps)) refl
     (λ k i below more.
-    upper-more (start .args .r) (omega arith) ps i (getD (made .result) i 0) x k (omega arith) (omega arith) (start .pre .1 .1 i more) below (made .ensures i more))
+    upper-more (start .args .r) (omega arith) ps i (getD (made .result) i 0) x k (omega arith) (omega arith) (start .pre .1 .1 i more) below (made .ensures .0 i more))
     (c .windows .ensures .0)
     (c .windows .ensures .1)
 

@@ -1,42 +1,48 @@
 -- `upper_starts`: before turn i the first i are written.
-use mathlib.Core.Path.{_≡_, refl, _∙_}
+use mathlib.Core.Path.{_≡_, _∙_}
 use Prim.Native.Nat.{ℕ, _+_, _-_, _≤_, _<_}
 use native.Mathlib.Nat.{not-suc-le-zero}
 use native.Mathlib.Omega.{arith}
 use lib.ListN.{length, getD, length-set}
-use Rattle.ring.specs.inner.Sizes.{mostT}
+use Rattle.ring.specs.inner.Sizes.{mostStarts, emptyWindow}
 use Rattle.ring.specs.inner.Windows.{UpperStart}
-use Rattle.ring.proofs.sparse.Laws.{start-more}
+use Rattle.ring.proofs.sparse.Laws.{start-more, start-rest, starts-empty}
 use Rattle.ring.proofs.sparse.upper_starts.Statement.{statement}
 use Rattle.ring.proofs.sparse.upper_starts.Tie as tie
 
 abbrev Inv-loop : tie.InvT-loop
 Inv-loop r positions count from₀ i₀ from i =
-    (i ≤ count) × (length from ≡ mostT) × ((j : ℕ) → j < i → UpperStart r (getD positions j 0) (getD from j 0))
+    (i ≤ count) × (length from ≡ mostStarts) × ((j : ℕ) → j < i → UpperStart r (getD positions j 0) (getD from j 0))
+    × ((j : ℕ) → i ≤ j → j < mostStarts → getD from j 0 ≡ emptyWindow)
 
 abbrev μ-loop : tie.MeasureT-loop
 μ-loop r positions count from₀ i₀ from i = count - i
 
+loop-holds : tie.Need-loop-holds Inv-loop μ-loop
+loop-holds c =
+    (omega arith, omega arith, (λ j below. absurd (not-suc-le-zero below)), λ j past. starts-empty (c .no-starts .ensures) j)
+
 -- the turn's position is below 2r
 low : (c : tie.In-loop Inv-loop μ-loop) →
-    let start = c .before .before .before in
+    let start = c .before .before .before .before in
     getD (start .args .positions .now) (c .before .loop .i) 0 < start .args .r + start .args .r
-low c = c .before .before .before .pre .1 (c .before .loop .i) (omega arith)
+low c = c .before .before .before .before .pre .1 (c .before .loop .i) (omega arith)
 
 loop-again : tie.Need-loop-again Inv-loop μ-loop
 loop-again c =
     let was = c .before .before .before .loop in
-    let given = c .before .before .before .before .before .args in (
+    let given = c .before .before .before .before .before .before .args in (
       omega arith,
       length-set (was .from) (was .i) _ ∙ was .inv .1,
       start-more (λ j s. UpperStart (given .r) (getD (given .positions .now) j 0) s) (was .from) (was .i) _ (omega arith) (was .inv .2) (c .upper-start .ensures),
+      start-rest (was .from) (was .i) _ (was .inv .3),
     )
 
 returns : tie.Need-returns Inv-loop μ-loop
 returns c =
     let was = c .before .loop in
-    let all : was .i ≡ c .before .before .before .args .count = omega arith in
-    rw (← all) (was .inv .2)
+    let all : was .i ≡ c .before .before .before .before .args .count = omega arith in
+    rw (← all) (was .inv .2, was .inv .3)
 
 pub upper-starts-spec : {M : Type 1} → statement M
 upper-starts-spec =
@@ -44,7 +50,8 @@ upper-starts-spec =
     (tie.spec
     Inv-loop
     μ-loop
-    (λ c. (omega arith, refl, λ j below. absurd (not-suc-le-zero below)))
+    (λ c κs. tt)
+    loop-holds
     (λ c. omega arith)
     (λ c. omega arith)
     (λ c. omega (arith, low (c .before)))
