@@ -1,5 +1,5 @@
-// Bytes into lanes and out of them: eight at once where a lane begins and eight are left, which is one load or one store
-// for the compiler, and one at a time elsewhere.
+// Bytes into lanes and out of them: eight at once where a lane begins and eight are left, which is one load or store in
+// the compiled code, and one at a time elsewhere.
 ghost use mathlib.Core.Path.{_≡_};
 ghost use Prim.Native.Nat.{ℕ, _+_, _*_, _/_, _%_, _^_, _≤_, _<_};
 ghost use lib.ListN.{length, getD};
