@@ -1,5 +1,5 @@
 -- What key making makes: a private key whose halves read back as h0 and h1, and a public key that matches them. Assumes nothing.
-use mathlib.Core.Path.{_≡_, refl, sym, ap, ap₂, _∙_, subst, fun-ext}
+use mathlib.Core.Path.{_≡_, refl, sym, ap, _∙_, subst, fun-ext}
 use mathlib.Core.Bool.{Bool, true, false, _&&_, _||_, or-false, and-true, and-false}
 use mathlib.Core.List.{List, [], _∷_, _++_, append-assoc, append-nil}
 use Prim.Native.Nat.{ℕ, zero, suc, _+_, _*_, _/_, _%_, _≤_, _<_, zero-le}
@@ -12,9 +12,10 @@ use lib.ListN.{length, getD, take, drop, length-append}
 use lib.Seq.{drop-at, ext-getD}
 use Rattle.hashing.specs.Lists.{tab}
 use Rattle.hashing.proofs.Lists.{length-tab, getD-tab}
-use Rattle.ring.specs.Polynomials.{Poly, InRing, rising, weight, bit, listed, support}
+use Rattle.ring.specs.Polynomials.{Poly, InRing, rising, weight, listed, support}
 use Rattle.ring.proofs.Bools.{both-true}
 use Rattle.ring.proofs.Weights.{length-rising}
+use Rattle.ring.proofs.times.Laws.{bounded}
 use Rattle.ring.specs.Bytes.{littleEndian, numbers}
 use Rattle.ring.specs.Levels.{Level}
 use Rattle.exchange.specs.decoder.PrivateKey.{positions0, positions1, tail, secret, risingFrom}
@@ -80,15 +81,7 @@ listed-rising (suc n) a k =
         let end : n ≤ k = omega arith in
         rw (le-ltb k n end, le-ltb k (suc n) beyond, ne-eqb k n there)
 
--- a polynomial of the ring has nothing from r on, and is given by its exponents
-pub bounded : (r : ℕ) {a : Poly} → InRing r a → (λ k. ltb k r && a k) ≡ a
-bounded r {a} inside = fun-ext (λ k. go k (decLt k r))
-  where
-    go : (k : ℕ) → Dec (k < r) → ltb k r && a k ≡ a k
-    go k (yes below) = rw (lt-ltb k r below)
-    go k (no past) =
-        let end : r ≤ k = omega arith in rw (le-ltb k r end) (sym (inside k end))
-
+-- a polynomial of the ring is given by its exponents
 pub support-rising : (r : ℕ) {a : Poly} → InRing r a → support (rising r a) ≡ a
 unfolding support
 support-rising r {a} inside = fun-ext (listed-rising r a) ∙ bounded r inside

@@ -1,12 +1,12 @@
--- Parts of a list: what a buffer holds that was written in two parts, and a part of a part. Assumes nothing.
+-- Parts of a list: what a buffer holds that was written in two parts, and how long a front is. Assumes nothing.
 use mathlib.Core.Path.{_≡_, sym, ap, ap₂, _∙_}
 use mathlib.Core.Bool.{false}
 use mathlib.Core.List.{List, [], _++_, append-nil}
 use Prim.Native.Nat.{ℕ, _+_, _-_, _≤_, _<_}
-use native.Mathlib.Nat.{le-of-eq, zero-add}
+use native.Mathlib.Nat.{le-of-eq}
 use native.Mathlib.Omega.{arith}
 use lib.ListN.{length, take, drop, replicate, drop-of-length-le, length-drop, length-take, length-replicate, getD-replicate}
-use lib.Seq.{sets, sets-eq, length-take-le, take-all, take-at, drop-at, take-add, ext-getD}
+use lib.Seq.{length-take-le, take-all, take-at, ext-getD}
 use Rattle.hashing.specs.Lists.{tab}
 use Rattle.hashing.proofs.Lists.{length-tab, getD-tab}
 use Rattle.ring.specs.Bytes.{number, listOf, byteLength, bytesOf}
@@ -25,19 +25,12 @@ two-parts n front rest old size =
 pub rest-all : (n : ℕ) (xs : List ℕ) → take (length xs - n) (drop n xs) ≡ drop n xs
 rest-all n xs = take-all (length xs - n) (drop n xs) (le-of-eq (length-drop n xs))
 
-pub drop-take : (n k : ℕ) (xs : List ℕ) → n ≤ length xs → drop n (take (n + k) xs) ≡ take k (drop n xs)
-drop-take n k xs within = rw (take-add n k xs) (drop-at (take n xs) (take k (drop n xs)) n (length-take-le n xs within))
-
 -- a list whose front holds the bytes of a polynomial is long enough, and so is its front
 pub front-room : (r : ℕ) (a : Poly) (xs : List ℕ) → take (byteLength r) xs ≡ bytesOf r a → byteLength r ≤ length xs
 front-room r a xs held = omega (arith, length-take (byteLength r) xs, ap length held ∙ bytesOf-length r a)
 
 pub front-long : (n : ℕ) {m : ℕ} (xs : List ℕ) → n ≡ m → m ≤ length xs → length (take n xs) ≡ n
 front-long n xs same room = length-take-le n xs (rw same room)
-
--- what was written to the front of a list stands there
-pub front-set : (list old : List ℕ) {n : ℕ} → length list ≡ n → length list ≤ length old → take n (sets old 0 list) ≡ list
-front-set list old long room = rw (sets-eq list old 0 (rw (zero-add (length list)) room)) (take-at list _ _ long)
 
 -- the bytes of no error
 pub no-bytes : (r n : ℕ) → n ≡ byteLength r → bytesOf r (λ k. false) ≡ replicate n 0

@@ -114,9 +114,6 @@ sizes level = facts level .sizes
 pub r-pos : (level : ℕ) → 0 < levelOf level .r
 r-pos level = omega (arith, sizes level .r-least)
 
-pub r-big : (level : ℕ) → 2 < levelOf level .r
-r-big level = omega (arith, sizes level .r-least)
-
 pub r-odd : (level : ℕ) → levelOf level .r % 2 ≡ 1
 r-odd level = facts level .odd
 

@@ -58,9 +58,3 @@ module _ (a b : List ℕ) (long : length a ≡ length b) (i : ℕ) (more : i < l
         holds = λ e. absurd (true≢false (sym e));
         fails = λ e same. so-far .fails refl (front same);
       }
-
-pub tells-both : {P Q : Type 0} (s t : Bool) → Tells s P → Tells t Q → Tells (s && t) (P × Q)
-tells-both true t p q =
-    record { holds = λ e. (p .holds refl, q .holds e); fails = λ e both. q .fails e (both .1) }
-tells-both false t p q =
-    record { holds = λ e. absurd (true≢false (sym e)); fails = λ e both. p .fails refl (both .0) }

@@ -1,10 +1,10 @@
 -- Laws of the decoder's definitions, and of what the code makes of them. Assumes nothing.
-use mathlib.Core.Path.{_≡_, refl, sym, ap, ap₂, _∙_, fun-ext}
+use mathlib.Core.Path.{_≡_, refl, ap, ap₂, _∙_, fun-ext}
 use mathlib.Core.Bool.{Bool, true, false, not, _&&_, and-false}
 use mathlib.Core.List.{List}
 use Prim.Native.Nat.{ℕ, zero, suc, _+_, _-_, _*_, _/_, _≤_, _<_}
 use native.Mathlib.Decide.{decLt}
-use native.Mathlib.Nat.{not-suc-le-zero, add-sub-of-le, add-zero, le-add-right, le-trans, le-max-right}
+use native.Mathlib.Nat.{not-suc-le-zero, le-trans, le-max-right}
 use native.Mathlib.Numerals.{add-one}
 use native.Mathlib.Omega.{arith}
 use borrow.Author.Tests.{le-ltb, lt-leb}
@@ -21,7 +21,7 @@ use Rattle.exchange.specs.decoder.Decoder.{Decoder, Pair, counter, thres
 use Rattle.exchange.specs.decoder.PrivateKey.{positions0, positions1, secret, risingFrom, goodKey}
 use Rattle.exchange.specs.inner.Working.{keyOf, Good, Counted}
 use Rattle.exchange.specs.declared.decoder.private_key
-use Rattle.ring.proofs.Weights.{weight-ext, weight-none, weight-add, weight-both}
+use Rattle.ring.proofs.Weights.{weight-both}
 
 pub pair-path : {e f : Pair} → e .half0 ≡ f .half0 → e .half1 ≡ f .half1 → e ≡ f
 pair-path p q = λ i. record { half0 = p i; half1 = q i }

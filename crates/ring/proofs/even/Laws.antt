@@ -4,12 +4,10 @@ use mathlib.Core.Bool.{Bool, true, false, _&&_, _||_, or-false, and-true, and-fa
 use Prim.Native.Nat.{ℕ, zero, suc, _+_, _-_, _*_, _/_, _%_, _^_, _≤_, _<_}
 use native.Mathlib.Decide.{ℕ-discrete}
 use native.Mathlib.Nat.{add-mul, add-mul-mod-self-right, mod-eq-of-lt, mul-add, mul-comm, mul-one, mul-zero, mul-le-mul-left}
-use native.Mathlib.Numerals.{add-one}
 use native.Mathlib.Omega.{arith}
 use borrow.Author.Tests.{lt-ltb, le-ltb}
 use lib.Bits.{bitAnd, bitOr}
 use lib.Dec.{ltb}
-use lib.ListN.{getD}
 use Rattle.hashing.specs.Lists.{tab, bitAt}
 use Rattle.hashing.proofs.Lists.{getD-tab, from-table}
 use Rattle.hashing.proofs.Words.{bit-and, bit-or, bit-mod, bit-shl, bit-shl-below}

@@ -1,20 +1,17 @@
 -- The exponents of a polynomial, as terms, are the polynomial. Assumes nothing.
-use mathlib.Core.Path.{_≡_, refl, sym, ap, ap₂, _∙_, fun-ext}
+use mathlib.Core.Path.{_≡_, refl, sym, ap, _∙_, fun-ext}
 use mathlib.Core.Bool.{Bool, true, false, _&&_, and-true, and-false}
 use mathlib.Core.List.{List, [], _∷_, _++_, append-nil}
-use Prim.Native.Nat.{ℕ, zero, suc, _%_, _≤_, _<_, zero-le}
+use Prim.Native.Nat.{ℕ, zero, suc, _≤_, _<_, zero-le}
 use native.Mathlib.Decide.{decLt, ℕ-discrete}
 use native.Mathlib.Nat.{mod-eq-of-lt}
 use native.Mathlib.Omega.{arith}
 use borrow.Author.Tests.{lt-ltb, le-ltb, eq-eqb, ne-eqb}
 use lib.Dec.{ltb, eqb}
-use lib.ListN.{length, getD}
+use lib.ListN.{getD}
 use Rattle.ring.specs.Polynomials.{Poly, InRing, flip, power, add, terms, rising}
+use Rattle.ring.proofs.Parity.{flip-false}
 use Rattle.ring.proofs.sparse.Laws.{terms-snoc}
-
-flip-false-r : (t : Bool) → flip t false ≡ t
-flip-false-r true = refl
-flip-false-r false = refl
 
 below-append : (b : ℕ) (xs ys : List ℕ) → ((i : ℕ) → getD xs i 0 < b) → ((i : ℕ) → getD ys i 0 < b) → (i : ℕ) → getD (xs ++ ys) i 0 < b
 below-append b [] ys first second i = second i
@@ -49,7 +46,7 @@ terms-upto r a (suc n) most k = go (a n) refl (terms-upto r a n (omega arith) k)
     more : (t : Bool) → a n ≡ t → Dec (k < n) → Dec (k ≡ n) → flip (ltb k n && a k) (eqb n k && t) ≡ ltb k (suc n) && a k
     more t is (yes below) same =
         let less : k < suc n = omega arith in
-        rw (lt-ltb k n below, lt-ltb k (suc n) less, ne-eqb n k (λ e. omega arith)) (flip-false-r (a k))
+        rw (lt-ltb k n below, lt-ltb k (suc n) less, ne-eqb n k (λ e. omega arith)) (flip-false (a k))
     more t is (no past) (yes here) =
         let less : k < suc n = omega arith in
         let end : n ≤ k = omega arith in
@@ -64,13 +61,17 @@ terms-upto r a (suc n) most k = go (a n) refl (terms-upto r a n (omega arith) k)
         ap (λ (f : Poly). f k) (terms-snoc r (rising n a) n)
         ∙ rw (before, mod-eq-of-lt {n = n} {m = r} (omega arith)) (ap (λ (b : Bool). flip (ltb k n && a k) b) (sym (and-true (eqb n k))) ∙ more true is (decLt k n) (ℕ-discrete k n))
     go false is before =
-        ap (λ (ps : List ℕ). terms r ps k) (append-nil (rising n a)) ∙ before ∙ sym (flip-false-r (ltb k n && a k))
+        ap (λ (ps : List ℕ). terms r ps k) (append-nil (rising n a)) ∙ before ∙ sym (flip-false (ltb k n && a k))
         ∙ ap (λ (b : Bool). flip (ltb k n && a k) b) (sym (and-false (eqb n k))) ∙ more false is (decLt k n) (ℕ-discrete k n)
 
-pub terms-rising : (r : ℕ) {a : Poly} → InRing r a → terms r (rising r a) ≡ a
-terms-rising r {a} inside = fun-ext (λ k. terms-upto r a r (omega arith) k ∙ go k (decLt k r))
+-- a polynomial of the ring has nothing from r on, and is given by its exponents
+pub bounded : (r : ℕ) {a : Poly} → InRing r a → (λ k. ltb k r && a k) ≡ a
+bounded r {a} inside = fun-ext (λ k. go k (decLt k r))
   where
     go : (k : ℕ) → Dec (k < r) → ltb k r && a k ≡ a k
     go k (yes below) = rw (lt-ltb k r below)
     go k (no past) =
         let end : r ≤ k = omega arith in rw (le-ltb k r end) (sym (inside k end))
+
+pub terms-rising : (r : ℕ) {a : Poly} → InRing r a → terms r (rising r a) ≡ a
+terms-rising r {a} inside = fun-ext (terms-upto r a r (omega arith)) ∙ bounded r inside

@@ -1,6 +1,5 @@
 -- `write` decodes c0·h0 under the key that was read, and hands on what was found.
 use mathlib.Core.Path.{_≡_, sym, ap, ap₂, _∙_}
-use mathlib.Core.List.{List}
 use Prim.Native.Nat.{ℕ, _+_, _*_, _-_, _≤_}
 use native.Mathlib.Omega.{arith}
 use lib.ListN.{length, take, drop, length-drop}
@@ -13,7 +12,7 @@ use Rattle.ring.proofs.Layouts.{pad-rule}
 use Rattle.ring.proofs.Levels.{r-pos, sizes}
 use Rattle.ring.proofs.Ring.{mul-in}
 use Rattle.exchange.specs.decoder.Decoder.{Pair, bgf, found}
-use Rattle.exchange.specs.decoder.PrivateKey.{secret, tail, sigma, digestIn}
+use Rattle.exchange.specs.decoder.PrivateKey.{tail, sigma, digestIn}
 use Rattle.exchange.specs.inner.Working.{keyOf, Good}
 use Rattle.exchange.specs.Opening.{syndromeOf, keyFor, opened}
 use Rattle.exchange.proofs.Judged.{OpeningClear, opening-clear}

@@ -1,9 +1,8 @@
 -- `alternate` puts two spread halves between each other.
 use mathlib.Core.Path.{_≡_, ap, ap₂, _∙_}
-use mathlib.Core.Bool.{Bool, false, _||_, or-false}
+use mathlib.Core.Bool.{false, _||_, or-false}
 use Prim.Native.Nat.{ℕ, zero, suc, _+_, _*_, _%_, _^_, _<_}
 use native.Mathlib.Omega.{arith}
-use lib.Bits.{bitOr}
 use Rattle.hashing.specs.Lists.{bitAt}
 use Rattle.hashing.proofs.Words.{bit-or}
 use Rattle.ring.specs.inner.Even.{Blocks}

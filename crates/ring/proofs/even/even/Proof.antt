@@ -1,10 +1,8 @@
 -- `even` halves the blocks five times.
 use mathlib.Core.Path.{_≡_, refl, ap}
-use Prim.Native.Nat.{ℕ, _+_, _*_, _^_, _<_}
-use native.Mathlib.Nat.{mul-zero}
+use Prim.Native.Nat.{ℕ, _*_, _^_, _<_}
 use native.Mathlib.Omega.{arith}
 use borrow.Author.Needs.{needs}
-use lib.Dec.{ltb}
 use Rattle.hashing.specs.Lists.{tab, bitAt}
 use Rattle.hashing.proofs.Words.{bit-above}
 use Rattle.ring.specs.inner.Even.{Blocks}

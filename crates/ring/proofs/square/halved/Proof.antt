@@ -1,5 +1,5 @@
 -- `halved` goes by k's binary digits from the lowest: h has the inverse of 2^low, p that of 2^value, and value·j + low is k.
-use mathlib.Core.Path.{_≡_, sym, ap, _∙_}
+use mathlib.Core.Path.{_≡_, ap, _∙_}
 use mathlib.Core.Logic.{⊎-elim}
 use Prim.Native.Nat.{ℕ, _+_, _*_, _/_, _%_, _^_, _<_}
 use native.Mathlib.Nat.{mod-eq-of-lt, mod-lt, add-mul, mul-add, mul-one, mul-zero}

@@ -1,12 +1,12 @@
 -- `once` writes word by word: before turn i the first 64 i bits are the square's.
 use mathlib.Core.Path.{_≡_, refl, sym, ap, _∙_}
-use mathlib.Core.Bool.{Bool, false}
-use Prim.Native.Nat.{ℕ, _+_, _-_, _*_, _/_, _%_, _^_, _≤_, _<_}
+use mathlib.Core.Bool.{Bool}
+use Prim.Native.Nat.{ℕ, _+_, _-_, _*_, _/_, _%_, _≤_, _<_}
 use native.Mathlib.Decide.{ℕ-discrete}
 use native.Mathlib.Nat.{one-mul, zero-mul}
 use native.Mathlib.Omega.{arith}
 use borrow.Author.Needs.{needs}
-use lib.ListN.{length, length-set, length-replicate}
+use lib.ListN.{length, length-set}
 use Rattle.hashing.specs.Lists.{bitAt, bits}
 use Rattle.ring.specs.inner.Sizes.{words}
 use Rattle.ring.proofs.Packed.{fill-below, bits-set-other, bits-zeros}
