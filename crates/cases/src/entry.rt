@@ -7,7 +7,6 @@ use crate::buffer::size;
 use crate::words;
 use exchange::record::Reading;
 use exchange::record::Thing;
-use libc::STDOUT_FILENO;
 
 // What stands before the buffers. An entry without numbers of its own has zeros for them.
 pub struct Case {
@@ -120,18 +119,18 @@ fn called(case: Case, a: &[u8], b: &[u8], out0: &mut [u8], out1: &mut [u8]) -> S
     }
 }
 
-fn print_field(n: u64) {
-    io::write_all(STDOUT_FILENO, b" ");
-    io::print_decimal(STDOUT_FILENO, n);
+// The line under way is a text and how much of it is used; each of these adds to it and gives how much it is then.
+fn put_field(text: &mut [u8], used: usize, n: u64) -> usize {
+    let next = lines::put(text, used, b" ");
+    lines::put_decimal(text, next, n)
 }
 
-fn print_out(out: &[u8]) {
-    io::write_all(STDOUT_FILENO, b" ");
+fn put_out(text: &mut [u8], used: usize, out: &[u8]) -> usize {
+    let next = lines::put(text, used, b" ");
     if out.len() == 0 {
-        io::write_all(STDOUT_FILENO, b"-");
-        return;
+        return lines::put(text, next, b"-");
     }
-    lines::print_hex(out);
+    lines::put_hex(text, next, out)
 }
 
 // Document 01's number of a thing.
@@ -146,55 +145,100 @@ fn number_of(thing: Thing) -> u64 {
     }
 }
 
-fn print_values(answer: u64, level: u64, thing: u64, body: u64) {
-    print_field(answer);
-    print_field(level);
-    print_field(thing);
-    print_field(body);
+fn put_values(
+    text: &mut [u8],
+    used: usize,
+    answer: u64,
+    level: u64,
+    thing: u64,
+    body: u64,
+) -> usize {
+    let first = put_field(text, used, answer);
+    let second = put_field(text, first, level);
+    let third = put_field(text, second, thing);
+    put_field(text, third, body)
 }
 
-fn print_record(bytes: &[u8]) {
+fn put_record(text: &mut [u8], used: usize, bytes: &[u8]) -> usize {
     match exchange::read_record(bytes) {
         Reading::Good(found) => {
             let thing = found.thing;
-            print_values(0, found.level as u64, number_of(thing), found.body as u64);
+            put_values(
+                text,
+                used,
+                0,
+                found.level as u64,
+                number_of(thing),
+                found.body as u64,
+            )
         }
-        Reading::Short => print_values(7, 0, 0, 0),
-        Reading::UnknownKind => print_values(8, 0, 0, 0),
-        Reading::WrongLength => print_values(9, 0, 0, 0),
+        Reading::Short => put_values(text, used, 7, 0, 0, 0),
+        Reading::UnknownKind => put_values(text, used, 8, 0, 0, 0),
+        Reading::WrongLength => put_values(text, used, 9, 0, 0, 0),
     }
 }
 
-fn print_number(reported: u8, i: u8, number: u32) {
+fn put_number(text: &mut [u8], used: usize, reported: u8, i: u8, number: u32) -> usize {
     if i < reported {
-        print_field(number as u64);
+        return put_field(text, used, number as u64);
     }
+    used
+}
+
+fn put_numbers(text: &mut [u8], used: usize, said: Said) -> usize {
+    let first = put_number(text, used, said.reported, 0, said.first);
+    let second = put_number(text, first, said.reported, 1, said.second);
+    let third = put_number(text, second, said.reported, 2, said.third);
+    put_number(text, third, said.reported, 3, said.fourth)
+}
+
+fn put_outs(text: &mut [u8], used: usize, number: u8, out0: &[u8], out1: &[u8]) -> usize {
+    let first = put_out(text, used, out0);
+    if outputs(number) == 2 {
+        return put_out(text, first, out1);
+    }
+    first
 }
 
 // The answer of an entry with outputs, what they hold, and the numbers.
-fn print_answer(case: Case, a: &[u8], b: &[u8], out0: &mut [u8], out1: &mut [u8]) {
+fn put_answer(
+    text: &mut [u8],
+    used: usize,
+    case: Case,
+    a: &[u8],
+    b: &[u8],
+    out0: &mut [u8],
+    out1: &mut [u8],
+) -> usize {
     mark(out1);
     let said = called(case, a, b, out0, out1);
-    print_field(said.answer as u64);
-    print_out(out0);
-    if outputs(case.number) == 2 {
-        print_out(out1);
-    }
-    print_number(said.reported, 0, said.first);
-    print_number(said.reported, 1, said.second);
-    print_number(said.reported, 2, said.third);
-    print_number(said.reported, 3, said.fourth);
+    let answered = put_field(text, used, said.answer as u64);
+    let shown = put_outs(text, answered, case.number, out0, out1);
+    put_numbers(text, shown, said)
 }
 
-fn print_line(case: Case, a: &[u8], b: &[u8], out0: &mut [u8], out1: &mut [u8]) {
-    io::print_decimal(STDOUT_FILENO, case.ordinal);
+fn put_line(
+    text: &mut [u8],
+    case: Case,
+    a: &[u8],
+    b: &[u8],
+    out0: &mut [u8],
+    out1: &mut [u8],
+) -> usize {
     let number = case.number;
-    print_field(number as u64);
+    let ordinal = lines::put_decimal(text, 0, case.ordinal);
+    let entry = put_field(text, ordinal, number as u64);
     if number == 10 {
-        print_record(a);
-        return;
+        return put_record(text, entry, a);
     }
-    print_answer(case, a, b, out0, out1);
+    put_answer(text, entry, case, a, b, out0, out1)
+}
+
+fn print_line(case: Case, a: &[u8], b: &[u8], out0: &mut [u8], out1: &mut [u8]) -> bool {
+    let mut text = io::large_buffer();
+    let used = put_line(&mut text, case, a, b, out0, out1);
+    let whole = lines::put(&mut text, used, b"\n");
+    lines::write(&text, whole)
 }
 
 // What an output holds before the call. False where a stored map is cut.
@@ -217,8 +261,7 @@ fn with_output1(case: Case, a: &[u8], b: &[u8], out0: &mut [u8]) -> bool {
     if MOST < n {
         return false;
     }
-    print_line(case, a, b, out0, &mut out1[..n]);
-    io::write_all(STDOUT_FILENO, b"\n")
+    print_line(case, a, b, out0, &mut out1[..n])
 }
 
 fn with_output0(case: Case, a: &[u8], b: &[u8]) -> bool {

@@ -55,8 +55,10 @@ fn answer(kind: Kind, all: &mut [u8], digest: &mut [u8]) -> bool {
     if !hash(kind, all, digest) {
         return false;
     }
-    lines::print_hex(digest);
-    io::write_all(STDOUT_FILENO, b"\n")
+    let mut text = io::buffer();
+    let shown = lines::put_hex(&mut text, 0, digest);
+    let whole = lines::put(&mut text, shown, b"\n");
+    lines::write(&text, whole)
 }
 
 fn vector(kind: Kind, size: usize, room: usize) -> bool {

@@ -2,16 +2,15 @@
 use mathlib.Core.Path.{_≡_, refl}
 use Prim.Native.Nat.{_≤_, _+_, _-_}
 use native.Mathlib.Omega.{arith}
-use borrow.Author.Needs.{needs}
 use lib.ListN.{length, length-set}
 use Rattle.lines.proofs.lay.Statement.{statement}
 use Rattle.lines.proofs.lay.Tie as tie
 
 abbrev Inv-loop : tie.InvT-loop
-Inv-loop bytes from n text₀ i₀ text i = (length text ≡ length text₀) × (i ≤ n)
+Inv-loop bytes from n text₀ at i₀ text i = (length text ≡ length text₀) × (i ≤ n)
 
 abbrev μ-loop : tie.MeasureT-loop
-μ-loop bytes from n text₀ i₀ text i = n - i
+μ-loop bytes from n text₀ at i₀ text i = n - i
 
 pub lay-spec : {M : Type 1} → statement M
 lay-spec =
@@ -25,7 +24,9 @@ lay-spec =
     (λ c κs. omega (arith, c .shared-slice-known2 .given (c .before .before .before .before .before .args .from + c .before .before .loop .i)))
     (λ c. omega arith)
     (λ c. omega arith)
+    (λ c. omega arith)
     (λ c κs. omega arith)
+    (λ c. omega arith)
     (λ c. omega arith)
     (λ c. omega arith)
     (λ c. simp length-set (omega arith))
