@@ -1,4 +1,5 @@
-// Both ends of an exchange in one function: key making, wrapping and opening in turn. It is proved from their contracts alone.
+// Both ends of an exchange in one function: key making, wrapping and opening in turn. It is proved from their contracts
+// alone.
 use exchange::make_key;
 use exchange::open;
 use exchange::wrap;

@@ -13,7 +13,8 @@ pub fn blank() -> [u8; MOST]
     [0; MOST]
 }
 
-// The length of the next buffer; 0 for one that the entry has not, and one more than the most for a length that is cut or too large.
+// The length of the next buffer; 0 for one that the entry has not, and one more than the most for a length that is cut
+// or too large.
 pub fn size(is_there: bool) -> usize
     ensures { λ n. ⌜ n ≤ 16385 ⌝ }
 {

@@ -1,5 +1,5 @@
-// Every public entry, driven from outside: standard input is a sequence of cases in the format of docs/CASES.md, and each gives a
-// line with its answer and all that its outputs then hold.
+// Every public entry, driven from outside: standard input is a sequence of cases in the format of docs/CASES.md, and
+// each gives a line with its answer and all that its outputs then hold.
 mod buffer;
 mod entry;
 mod words;

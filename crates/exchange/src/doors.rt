@@ -1,5 +1,5 @@
-// The doors that C calls, on a level and byte slices: each slice is a pointer and a length. A door keeps its entry's promise,
-// and that of key making has a report besides.
+// The doors that C calls, on a level and byte slices: each slice is a pointer and a length. A door keeps its entry's
+// promise, and that of key making has a report besides.
 use crate::bytes;
 use crate::judge;
 use crate::keys::KeyCounts;

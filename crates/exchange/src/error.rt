@@ -1,4 +1,5 @@
-// H: the error of a message, as the two halves that wrapping sends and opening looks for. No branch depends on a position.
+// H: the error of a message, as the two halves that wrapping sends and opening looks for. No branch depends on a
+// position.
 use crate::sampler;
 use hashing::sponge;
 use ring::frame::cut;
@@ -107,7 +108,8 @@ pub struct ErrorWords {
     pub e1: [u64; WORDS],
 }
 
-// The first r bits are e0's and the next r are e1's. With X^r = 1 they all come to the sum of both, and that and e0 are e1.
+// The first r bits are e0's and the next r are e1's. With X^r = 1 they all come to the sum of both, and that and e0 are
+// e1.
 fn split(r: usize, all: [u64; WIDE]) -> ErrorWords
     requires { ⌜ (r % 2 ≡ 1) × (r < wordBits) ⌝ }
     ensures { λ e. ⌜ (bits 64 (e .e0) ≡ (λ k. ltb k r && bits 64 all k)) × (bits 64 (e .e1) ≡ (λ k. ltb k r && bits 64 all (r + k))) ⌝ }

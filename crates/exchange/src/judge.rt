@@ -1,5 +1,5 @@
-// What each entry refuses, before anything is written: document 01's numbers down the column, the first that applies, or 0. An output
-// comes in by its actual length, its room.
+// What each entry refuses, before anything is written: document 01's numbers down the column, the first that applies,
+// or 0. An output comes in by its actual length, its room.
 use crate::decoder::is_good;
 use crate::decoder::read_key;
 use crate::fair::MOST_WORDS;

@@ -1,5 +1,5 @@
-// BIKE as document 01 fixes it: key making, wrapping, decoding, opening, and the record reader. An entry is judged first (`judge`); a
-// number that shows only in the work comes after the judge's.
+// BIKE as document 01 fixes it: key making, wrapping, decoding, opening, and the record reader. An entry is judged
+// first (`judge`); a number that shows only in the work comes after the judge's.
 pub mod bytes;
 pub mod decoder;
 mod decoding;

@@ -1,5 +1,5 @@
-// Masks, where a branch would tell what was chosen. They are made from a count whose range the compiler does not know: from a bool it
-// would make a branch again.
+// Masks, where a branch would tell what was chosen. They are made from a count whose range the compiler does not know:
+// from a bool it would make a branch again.
 ghost use mathlib.Core.Path.{_≡_};
 ghost use Prim.Native.Nat.{_-_, _^_, _≤_, _<_};
 

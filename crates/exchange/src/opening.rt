@@ -70,7 +70,8 @@ fn chosen(differences: usize, m: [u8; 32], sigma: &[u8]) -> [u8; 32]
     out
 }
 
-// The session key that goes with an error: of m' where the error is that of m' tied to the digest, else of sigma. The answer is the same.
+// The session key that goes with an error: of m' where the error is that of m' tied to the digest, else of sigma. The
+// answer is the same.
 fn write_session_key(
     level: u32,
     e0: [u64; WORDS],

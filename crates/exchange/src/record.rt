@@ -98,7 +98,8 @@ pub fn read_record(bytes: &[u8]) -> Reading
     })
 }
 
-// A line of a listing: document 01's numbers for a reading, and where the next record begins: after a refusal, at the end.
+// A line of a listing: document 01's numbers for a reading, and where the next record begins: after a refusal, at the
+// end.
 pub struct Line {
     pub answer: u32,
     pub level: u32,

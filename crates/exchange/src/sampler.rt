@@ -53,8 +53,8 @@ fn chosen(i: u32, pos: u32, list: &[u32]) -> Choice
     }
 }
 
-// The word of step i is the i-th of the stream, and the steps go down: the first position listed is from the last word. Gives how many
-// positions were replaced.
+// The word of step i is the i-th of the stream, and the steps go down: the first position listed is from the last word.
+// Gives how many positions were replaced.
 pub fn sample(len: u32, stream: &[u8], list: &mut [u32]) -> u32
     requires { ⌜ (4 * length (now list) ≤ length (now stream)) × (length (now list) ≤ len) ⌝ }
     ensures { λ count.

@@ -26,8 +26,8 @@ pub struct Addends {
     pub product: [u64; WORDS],
 }
 
-// The error of a message, and e1·h. All positions go into the product, those of e0 as empty windows, so that the work is the same for
-// every message.
+// The error of a message, and e1·h. All positions go into the product, those of e0 as empty windows, so that the work
+// is the same for every message.
 fn addends_of(level: u32, h: [u64; WORDS], message: &[u8]) -> Addends
     requires { ⌜ InRing (levelOf level .r) (bits 64 h) ⌝ }
     ensures { λ a. ⌜ (bits 64 (a .e0) ≡ hashH (levelOf level) (now (message .entry)) .half0)

@@ -1,6 +1,8 @@
-// What the test programs read and print: numbers of four bytes, and lines that are put together and written in one call.
+// What the test programs read and print: numbers of four bytes, and lines that are put together and written in one
+// call.
 //
-// A line under way is a text and how much of its front is used. Where the next part does not fit, what is there is written first.
+// A line under way is a text and how much of its front is used. Where the next part does not fit, what is there is
+// written first.
 use libc::STDIN_FILENO;
 use libc::STDOUT_FILENO;
 ghost use mathlib.Core.Path.{_≡_};

@@ -1,4 +1,5 @@
-// Lists the records of standard input, at most 65,536 bytes of it: a line for each record up to the end or the first refusal.
+// Lists the records of standard input, at most 65,536 bytes of it: a line for each record up to the end or the first
+// refusal.
 use exchange::record;
 use exchange::record::Line;
 use libc::STDOUT_FILENO;

@@ -1,5 +1,6 @@
-// The dense product, by a comb with windows of 6 bits. A table has the 64 multiples u·b of one factor; for each window, from the highest
-// down, the sum so far is shifted by 6 and the rows that the window picks by the other factor's words are added, eight rows a pass.
+// The dense product, by a comb with windows of 6 bits. A table has the 64 multiples u·b of one factor; for each window,
+// from the highest down, the sum so far is shifted by 6 and the rows that the window picks by the other factor's words
+// are added, eight rows a pass.
 ghost use mathlib.Core.Path.{_≡_};
 ghost use Prim.Native.Nat.{ℕ, _+_, _-_, _*_, _/_, _%_, _^_, _≤_, _<_};
 ghost use lib.ListN.{length, getD, replicate};
@@ -14,8 +15,8 @@ use crate::words::funnel;
 use crate::words::place;
 use crate::words::word;
 
-// A row of the table: a polynomial's words and one for what u·b has above them, with 7 words of 0 on each side. So a row
-// that is moved up by m words, for m below 8, is the same row read from m words further left.
+// A row of the table: a polynomial's words and one for what u·b has above them, with 7 words of 0 on each side. So a
+// row that is moved up by m words, for m below 8, is the same row read from m words further left.
 const ROW: usize = WORDS + 15;
 
 const TABLE: usize = 64 * ROW;
@@ -155,7 +156,8 @@ pub fn wide_zeros() -> [u64; WIDE]
     [0u64; WIDE]
 }
 
-// The product of two polynomials of n words, before reduction. The highest window has 4 bits only: 66 is the next multiple of 6 after 64.
+// The product of two polynomials of n words, before reduction. The highest window has 4 bits only: 66 is the next
+// multiple of 6 after 64.
 fn wide_product(a: [u64; WORDS], b: [u64; WORDS], n: usize) -> [u64; WIDE]
     requires { ⌜ (n ≤ words) × (InRing (64 * n) (bits 64 a)) × (InRing (64 * n) (bits 64 b)) ⌝ }
     ensures { λ x. ⌜ ((k : ℕ) → k < 128 * n → bits 64 x k ≡ wide (64 * n) (bits 64 a) (bits 64 b) k) ⌝ }

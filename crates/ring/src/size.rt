@@ -4,7 +4,8 @@ use crate::level::level_of;
 ghost use mathlib.Core.Path.{_≡_};
 ghost use Rattle.ring.specs.Levels.{levelOf, polyBytes, positionBits, ciphertextBytes, privateBytes};
 
-// The largest sizes of the table: a polynomial's words of 64 bits, the weight of a half of a private key, that of an error.
+// The largest sizes of the table: a polynomial's words of 64 bits, the weight of a half of a private key, that of an
+// error.
 pub const WORDS: usize = 386;
 
 pub const MOST_D: usize = 103;

@@ -1,5 +1,5 @@
-// k squarings at once: the exponents are multiplied by 2^k modulo r, so with n the inverse of 2^k modulo r, bit j of the result is
-// bit n j mod r of x.
+// k squarings at once: the exponents are multiplied by 2^k modulo r, so with n the inverse of 2^k modulo r, bit j of
+// the result is bit n j mod r of x.
 use crate::even::alternate;
 use crate::frame::cut;
 use crate::frame::zeros;
@@ -56,9 +56,9 @@ fn wide(b: u8) -> u64
     b as u64
 }
 
-// A word whose bits, from the highest down, are those at `start`, `start + step`, .. in a circle of r places. Two bits a turn: the
-// polynomial is held twice, so only every other place has to be brought back below r. And a bit that comes in at the low end costs
-// less than one that is shifted to its place.
+// A word whose bits, from the highest down, are those at `start`, `start + step`, .. in a circle of r places. Two bits
+// a turn: the polynomial is held twice, so only every other place has to be brought back below r. And a bit that comes
+// in at the low end costs less than one that is shifted to its place.
 fn gather(d: &[u8], r: usize, start: usize, step: usize) -> u64
     requires { ⌜ (start < r) × (step < r) × (r < wordBits) × (r + r ≤ length (now d)) ⌝
         ∗ ⌜ ((k : ℕ) → k < r + r → getD (now d) k 0 < 2) ⌝ }

@@ -1,4 +1,5 @@
-// A polynomial with one byte to a bit, twice in a row: a loop over its bits then needs no shift, and a step within it no wrap.
+// A polynomial with one byte to a bit, twice in a row: a loop over its bits then needs no shift, and a step within it
+// no wrap.
 use crate::size::WORDS;
 ghost use mathlib.Core.Path.{_≡_};
 ghost use mathlib.Core.Logic.{_⊎_};
@@ -13,8 +14,8 @@ ghost use Rattle.ring.specs.inner.Sizes.{wordBits, wordBytes};
 // Bytes for the bits of a polynomial of the largest level, twice.
 pub const TWICE_BITS: usize = 2 * 64 * WORDS;
 
-// The digits of a byte, each in a byte of its own: of seven copies of the low seven digits, seven places apart, copy m has digit m at
-// place 8 m. The copies do not overlap.
+// The digits of a byte, each in a byte of its own: of seven copies of the low seven digits, seven places apart, copy m
+// has digit m at place 8 m. The copies do not overlap.
 fn digits(b: u64) -> u64
     requires { ⌜ b < 256 ⌝ }
     ensures { λ v. ⌜ ((m : ℕ) → m < 8 → v / 2 ^ (8 * m) % 256 ≡ bit (bitAt b m)) ⌝ }

@@ -1,5 +1,5 @@
-// The counters of all bits of one half, one byte to a bit. The residual lies twice in a row, so that a position of h is one row of
-// bytes with no wrap, and after it come zeros, so that eight rows can always be added in one pass.
+// The counters of all bits of one half, one byte to a bit. The residual lies twice in a row, so that a position of h is
+// one row of bytes with no wrap, and after it come zeros, so that eight rows can always be added in one pass.
 use ring::WORDS;
 use ring::frame::zeros;
 use ring::unpack::lay;

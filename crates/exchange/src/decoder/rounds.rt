@@ -176,7 +176,8 @@ fn under(mask: u64, x: [u64; WORDS], n: usize) -> [u64; WORDS]
     y
 }
 
-// The error of a decoding that left no bit of the residual, and no error after one that left some. No branch tells which.
+// The error of a decoding that left no bit of the residual, and no error after one that left some. No branch tells
+// which.
 fn kept(level: u32, left: usize, e: WordPair) -> WordPair
     requires { ⌜ left ≤ 65536 ⌝ ∗ ⌜ Inside (levelOf level) e ⌝ }
     ensures { λ k. ⌜ pairOf k ≡ Working.kept (ltb 0 left) (pairOf e) ⌝ }
