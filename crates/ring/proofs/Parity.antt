@@ -39,6 +39,12 @@ flip-swap a b c d = simp (flip-assoc, flip-left)
     flip-left : (x y z : Bool) → flip x (flip y z) ≡ flip y (flip x z)
     flip-left x y z = sym (flip-assoc x y z) ∙ ap (λ (s : Bool). flip s z) (flip-comm x y) ∙ flip-assoc y x z
 
+pub flip-ends : (a b c d : Bool) → flip (flip (flip (flip a b) (flip c d)) a) d ≡ flip b c
+flip-ends a b c d =
+    ap (λ (e : Bool). flip (flip e a) d) (flip-assoc a b (flip c d) ∙ flip-comm a (flip b (flip c d)))
+    ∙ ap (λ (e : Bool). flip e d) (flip-assoc (flip b (flip c d)) a a ∙ ap (flip (flip b (flip c d))) (flip-self a) ∙ flip-false (flip b (flip c d)))
+    ∙ flip-assoc b (flip c d) d ∙ ap (flip b) (flip-assoc c d d ∙ ap (flip c) (flip-self d) ∙ flip-false c)
+
 pub both-false : (a : Bool) → both a false ≡ false
 both-false true = refl
 both-false false = refl

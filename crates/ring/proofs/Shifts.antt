@@ -1,16 +1,16 @@
 -- Laws of shifts, and of products before X^r = 1 is applied. Assumes nothing.
-use mathlib.Core.Path.{_≡_, refl, sym, ap, ap₂, _∙_}
+use mathlib.Core.Path.{_≡_, refl, sym, ap, ap₂, _∙_, fun-ext}
 use mathlib.Core.Bool.{Bool, true, false}
 use mathlib.Core.Logic.{_⊎_, inl, inr, ⊎-elim}
-use Prim.Native.Nat.{ℕ, zero, suc, _+_, _-_, _*_, _%_, _≤_, _<_}
-use native.Mathlib.Nat.{mod-eq-of-lt, mod-eq-sub-mod, add-mod-right, add-comm, mul-zero, mul-suc}
+use Prim.Native.Nat.{ℕ, zero, suc, _+_, _-_, _*_, _%_, _≤_, _<_, zero-le}
+use native.Mathlib.Nat.{mod-eq-of-lt, mod-eq-sub-mod, add-mod-right, add-comm, mul-zero, mul-suc, sub-zero}
 use native.Mathlib.Decide.{decLe, decLt}
 use native.Mathlib.Omega.{arith}
 use borrow.Author.Tests.{le-leb, lt-leb, eq-eqb, ne-eqb}
 use lib.Dec.{leb, eqb}
-use Rattle.ring.specs.Polynomials.{Poly, InRing, flip, both, parity, over, power, mul}
+use Rattle.ring.specs.Polynomials.{Poly, InRing, flip, both, parity, over, power, add, mul}
 use Rattle.ring.specs.inner.Wide.{shifted, wide}
-use Rattle.ring.proofs.Parity.{both-flip, both-false, both-true, flip-false, parity-ext, parity-none, parity-flip, parity-both, parity-split, parity-at}
+use Rattle.ring.proofs.Parity.{both-flip, flip-both, both-false, both-true, flip-false, flip-comm, flip-swap, flip-ends, parity-ext, parity-none, parity-flip, parity-both, parity-split, parity-at}
 
 -- ---- shifts
 
@@ -109,6 +109,68 @@ wide-blocks w zero a b k = rw mul-zero refl
 wide-blocks w (suc n) a b k =
     rw (mul-suc w n) (wide-split (w * n) w a b k)
     ∙ ap (λ (p : Bool). flip p (shifted (w * n) (wide w (λ e. a (w * n + e)) b) k)) (wide-blocks w n a b k)
+
+-- ---- sums
+
+pub shifted-zero : (b : Poly) → shifted 0 b ≡ b
+shifted-zero b = fun-ext (λ k. shifted-from 0 b k zero-le ∙ ap b (sub-zero k))
+
+add-wide : (n : ℕ) (a a′ b : Poly) (k : ℕ) → wide n (add a a′) b k ≡ flip (wide n a b k) (wide n a′ b k)
+unfolding wide over add
+add-wide n a a′ b k =
+    parity-ext n {f = λ i. both (flip (a i) (a′ i)) (shifted i b k)} {g = λ i. flip (both (a i) (shifted i b k)) (both (a′ i) (shifted i b k))}
+    (λ i h. flip-both (a i) (a′ i) (shifted i b k))
+    ∙ parity-flip n (λ i. both (a i) (shifted i b k)) (λ i. both (a′ i) (shifted i b k))
+
+wide-add : (n : ℕ) (a b b′ : Poly) (k : ℕ) → wide n a (add b b′) k ≡ flip (wide n a b k) (wide n a b′ k)
+unfolding wide over add
+wide-add n a b b′ k =
+    parity-ext n {f = λ i. both (a i) (shifted i (λ j. flip (b j) (b′ j)) k)} {g = λ i. flip (both (a i) (shifted i b k)) (both (a i) (shifted i b′ k))}
+    (λ i h. ap (both (a i)) (shifted-flip i b b′ k) ∙ both-flip (a i) (shifted i b k) (shifted i b′ k))
+    ∙ parity-flip n (λ i. both (a i) (shifted i b k)) (λ i. both (a i) (shifted i b′ k))
+
+wide-shifted : (n s : ℕ) (a b : Poly) (k : ℕ) → wide n a (shifted s b) k ≡ shifted s (wide n a b) k
+unfolding wide over
+wide-shifted n s a b k =
+    parity-ext n {f = λ i. both (a i) (shifted i (shifted s b) k)} {g = λ i. shifted s (λ j. both (a i) (shifted i b j)) k}
+    (λ i h. ap (both (a i)) (shifted-swap i s b k) ∙ shifted-both s (a i) (shifted i b) k)
+    ∙ sym (shifted-parity s n (λ i j. both (a i) (shifted i b j)) k)
+
+-- Karatsuba: the product of two factors in halves of h coefficients, from three products of such halves
+module _ (h : ℕ) (a0 a1 b0 b1 : Poly) where
+  abbrev low : Poly
+  low = wide h a0 b0
+
+  abbrev high : Poly
+  high = wide h a1 b1
+
+  abbrev mid : Poly
+  mid = wide h (add a0 a1) (add b0 b1)
+
+  -- what is left of the third product without the other two
+  crossed : (k : ℕ) → flip (flip (mid k) (low k)) (high k) ≡ flip (wide h a0 b1 k) (wide h a1 b0 k)
+  crossed k =
+      ap (λ (m : Bool). flip (flip m (low k)) (high k))
+      (add-wide h a0 a1 (add b0 b1) k ∙ ap₂ flip (wide-add h a0 b0 b1 k) (wide-add h a1 b0 b1 k))
+      ∙ flip-ends (low k) (wide h a0 b1 k) (wide h a1 b0 k) (high k)
+
+  pub karatsuba : (a b : Poly) → ((i : ℕ) → i < h → a i ≡ a0 i) → ((i : ℕ) → a (h + i) ≡ a1 i) → b ≡ add b0 (shifted h b1)
+      → add (add low (shifted (h + h) high)) (shifted h (add (add mid low) high)) ≡ wide (h + h) a b
+  unfolding add
+  karatsuba a b first second parts = fun-ext (λ k.
+      let below : Poly = wide h a0 b1 in
+      let above : Poly = wide h a1 b0 in
+      let times : (c : Poly) (i : ℕ) → wide h c b i ≡ flip (wide h c b0 i) (shifted h (wide h c b1) i) = λ c i.
+      ap (λ (d : Poly). wide h c d i) parts ∙ wide-add h c b0 (shifted h b1) i ∙ ap (flip (wide h c b0 i)) (wide-shifted h h c b1 i) in
+      ap (flip (flip (low k) (shifted (h + h) high k)))
+      (ap (λ (p : Poly). shifted h p k) (fun-ext crossed) ∙ shifted-flip h below above k)
+      ∙ sym (flip-swap (low k) (shifted h below k) (shifted (h + h) high k) (shifted h above k))
+      ∙ ap (flip (flip (low k) (shifted h below k)))
+      (flip-comm (shifted (h + h) high k) (shifted h above k) ∙ ap (flip (shifted h above k)) (shifted-shifted h h high k)
+      ∙ sym (shifted-flip h above (shifted h high) k) ∙ ap (λ (p : Poly). shifted h p k) (fun-ext (λ i.
+      sym (wide-ext h (λ i. a (h + i)) a1 b i (λ i less. second i) ∙ times a1 i))))
+      ∙ ap (λ (p : Bool). flip p (shifted h (wide h (λ i. a (h + i)) b) k)) (sym (wide-ext h a a0 b k first ∙ times a0 k))
+      ∙ sym (wide-split h h a b k))
 
 -- ---- reduction
 

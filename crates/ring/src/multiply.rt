@@ -1,46 +1,59 @@
-// The dense product, by a comb with windows of 6 bits. A table has the 64 multiples u·b of one factor; for each window,
-// from the highest down, the sum so far is shifted by 6 and the rows that the window picks by the other factor's words
-// are added, eight rows a pass.
+// The dense product: Karatsuba's way of three products of half the length, down to leaves of 49 words, which are
+// multiplied by a comb with windows of 5 bits. The comb's table has the 32 multiples u·b of one factor; for each window,
+// from the highest down, the sum so far is shifted by 5 and the rows that the window picks by the other factor's words
+// are added, seven rows a pass. One table is made for a product and lent to all its leaves.
 ghost use mathlib.Core.Path.{_≡_};
 ghost use Prim.Native.Nat.{ℕ, _+_, _-_, _*_, _/_, _%_, _^_, _≤_, _<_};
-ghost use lib.ListN.{length, getD, replicate};
+ghost use lib.ListN.{length, getD, take, drop, replicate};
 ghost use Rattle.hashing.specs.Lists.{tab, bitAt, bits};
+ghost use Rattle.ring.specs.Polynomials;
 ghost use Rattle.ring.specs.Polynomials.{Poly, InRing, flip, parity, mul};
-ghost use Rattle.ring.specs.inner.Wide.{shifted, wide, Outside, Multiples, start};
-ghost use Rattle.ring.specs.inner.Sizes.{words, wordBits, rowWords, tableWords, mostPasses, wideWords};
+ghost use Rattle.ring.specs.inner.Wide.{shifted, wide, Away, Outside, Clear, Multiples, start};
+ghost use Rattle.ring.specs.inner.Sizes.{words, wordBits, leafWords, rowWords, tableWords, firstRow, factorWords, wideWords};
 use crate::frame::cut;
 use crate::frame::zeros;
 use crate::size::WORDS;
 use crate::words::funnel;
 use crate::words::place;
-use crate::words::word;
 
-// A row of the table: a polynomial's words and one for what u·b has above them, with 7 words of 0 on each side. So a
-// row that is moved up by m words, for m below 8, is the same row read from m words further left.
-const ROW: usize = WORDS + 15;
+// The words of a leaf, seven for each pass of the comb; of its product; of the longest factor and half of it.
+const LEAF: usize = 49;
 
-const TABLE: usize = 64 * ROW;
+const LEAF_WIDE: usize = 2 * LEAF;
+
+const FACTOR: usize = 8 * LEAF;
+
+const HALF: usize = 4 * LEAF;
+
+// Room for a product before it is reduced.
+pub const WIDE: usize = 2 * FACTOR;
+
+// A row of the table: 6 words of 0, a leaf's words and one for what u·b has above them, and words of 0 again. So a row
+// that is moved up by m words, for m below 7, is the same row read from m words further left.
+const ROW: usize = 64;
+
+const TABLE: usize = 32 * ROW;
 
 // Where row 1 has b itself.
-const FIRST: usize = ROW + 7;
+const FIRST: usize = ROW + 6;
 
-// Room for a product before it is reduced: the words of one factor, and those of the other in passes of eight.
-pub const WIDE: usize = WORDS + 8 * ((WORDS + 7) / 8);
-
-// Row u, from those below it: twice row u / 2, and b once more if u is odd.
-fn fill_row(t: &mut [u64], u: usize, n: usize)
-    requires { ⌜ (1 < u) × (u < 64) × (n ≤ words) × (length (now t) ≡ tableWords) ⌝ }
-    ensures { λ _. ⌜ Outside (rowWords * u + 7) (n + 1) (now (t .entry)) (now (t .exit)) ⌝ }
-    ensures { λ _. ⌜ ((k : ℕ) → k < 64 * (n + 1) → bits 64 (now (t .exit)) (64 * (rowWords * u + 7) + k)
-        ≡ flip (bits 64 (now (t .entry)) (64 * (rowWords * (u / 2) + 7) + k - 1))
-        (bits 64 (now (t .entry)) (64 * (rowWords * (u % 2) + 7) + k))) ⌝ }
+// Rows 2·v and 2·v + 1, from row v: twice it, and b once more.
+fn fill_two(t: &mut [u64], v: usize, n: usize)
+    requires { ⌜ (0 < v) × (v < 16) × (n ≤ leafWords) × (length (now t) ≡ tableWords) ⌝ }
+    ensures { λ _. ⌜ ((i : ℕ) → Away (rowWords * (2 * v) + 6) (n + 1) i → Away (rowWords * (2 * v + 1) + 6) (n + 1) i
+        → getD (now (t .exit)) i 0 ≡ getD (now (t .entry)) i 0) ⌝ }
+    ensures { λ _. ⌜ ((k : ℕ) → k < 64 * (n + 1) → bits 64 (now (t .exit)) (64 * (rowWords * (2 * v) + 6) + k)
+        ≡ bits 64 (now (t .entry)) (64 * (rowWords * v + 6) + k - 1)) ⌝ }
+    ensures { λ _. ⌜ ((k : ℕ) → k < 64 * (n + 1) → bits 64 (now (t .exit)) (64 * (rowWords * (2 * v + 1) + 6) + k)
+        ≡ flip (bits 64 (now (t .entry)) (64 * (rowWords * v + 6) + k - 1)) (bits 64 (now (t .entry)) (64 * firstRow + k))) ⌝ }
 {
-    let from = ROW * (u / 2) + 7;
-    let plus = ROW * (u % 2) + 7;
-    let to = ROW * u + 7;
+    let from = ROW * v + 6;
+    let to = ROW * (2 * v) + 6;
     let mut i = 0;
     while i <= n {
-        t[to + i] = funnel(t[from + i - 1], t[from + i], 1) ^ t[plus + i];
+        let x = funnel(t[from + i - 1], t[from + i], 1);
+        t[to + i] = x;
+        t[to + ROW + i] = x ^ t[FIRST + i];
         i += 1;
     }
 }
@@ -52,31 +65,30 @@ fn blank() -> [u64; TABLE]
     [0u64; TABLE]
 }
 
-// The table of the multiples of b, a polynomial of n words.
-fn multiples(b: [u64; WORDS], n: usize) -> [u64; TABLE]
-    requires { ⌜ (n ≤ words) × InRing (64 * n) (bits 64 b) ⌝ }
-    ensures { λ t. ⌜ Multiples (bits 64 b) 64 t ⌝ }
+// The table of the multiples of b, a leaf of n words.
+fn multiples(t: &mut [u64], b: &[u64], n: usize)
+    requires { ⌜ (n ≤ leafWords) × (length (now b) ≡ n) × Clear n (now t) ⌝ }
+    ensures { λ _. ⌜ Clear n (now (t .exit)) × Multiples (bits 64 (now (b .entry))) 32 (now (t .exit)) ⌝ }
 {
-    let mut t = blank();
-    place(&mut t, &b, FIRST);
-    let mut u = 2;
-    while u < 64 {
-        fill_row(&mut t, u, n);
-        u += 1;
+    place(t, b, FIRST);
+    t[FIRST + n] = 0;
+    let mut v = 1;
+    while v < 16 {
+        fill_two(t, v, n);
+        v += 1;
     }
-    t
 }
 
-// Where in the table the rows start that the window at bit w picks for words j to j + 7, each moved up to its word.
-fn offsets(a: &[u64], j: usize, w: u64) -> [usize; 8]
-    requires { ⌜ (w < 64) × (j < 8 * mostPasses) ⌝ }
-    ensures { λ r. ⌜ r ≡ tab 8 (start (now (a .entry)) w j) ⌝ }
+// Where in the table the rows start that the window at bit w picks for words j to j + 6, each moved up to its word.
+fn offsets(a: &[u64], j: usize, w: u64) -> [usize; 7]
+    requires { ⌜ (w < 64) × (j + 7 ≤ length (now a)) ⌝ }
+    ensures { λ r. ⌜ r ≡ tab 7 (start (now (a .entry)) w j) ⌝ }
 {
-    let mut o = [0usize; 8];
+    let mut o = [0usize; 7];
     let mut m = 0;
-    while m < 8 {
-        let u = (word(a, j + m) >> w) % 64;
-        o[m] = ROW * u as usize + (7 - m);
+    while m < 7 {
+        let u = (a[j + m] >> w) % 32;
+        o[m] = ROW * u as usize + (6 - m);
         m += 1;
     }
     o
@@ -90,10 +102,10 @@ fn entry(t: &[u64], o: usize, i: usize) -> u64
     t[o + i]
 }
 
-// The sum of word i of eight rows.
-fn eight(t: &[u64], o: [usize; 8], i: usize) -> u64
-    requires { ⌜ ((m : ℕ) → m < 8 → getD o m 0 + i < length (now t)) ⌝ }
-    ensures { λ r. ⌜ ((e : ℕ) → e < 64 → bitAt r e ≡ parity 8 (λ m. bitAt (getD (now (t .entry)) (getD o m 0 + i) 0) e)) ⌝ }
+// The sum of word i of seven rows.
+fn seven(t: &[u64], o: [usize; 7], i: usize) -> u64
+    requires { ⌜ ((m : ℕ) → m < 7 → getD o m 0 + i < length (now t)) ⌝ }
+    ensures { λ r. ⌜ ((e : ℕ) → e < 64 → bitAt r e ≡ parity 7 (λ m. bitAt (getD (now (t .entry)) (getD o m 0 + i) 0) e)) ⌝ }
 {
     entry(t, o[0], i)
         ^ entry(t, o[1], i)
@@ -102,51 +114,164 @@ fn eight(t: &[u64], o: [usize; 8], i: usize) -> u64
         ^ entry(t, o[4], i)
         ^ entry(t, o[5], i)
         ^ entry(t, o[6], i)
-        ^ entry(t, o[7], i)
 }
 
-// Eight rows are added to x, from word j on.
-fn add_rows(x: &mut [u64], j: usize, t: &[u64], o: [usize; 8], len: usize)
-    requires { ⌜ (j + len ≤ length (now x)) × ((m : ℕ) → m < 8 → getD o m 0 + len ≤ length (now t)) ⌝ }
+// Seven rows are added to x, from word j on.
+fn add_rows(x: &mut [u64], j: usize, t: &[u64], o: [usize; 7], len: usize)
+    requires { ⌜ (j + len ≤ length (now x)) × ((m : ℕ) → m < 7 → getD o m 0 + len ≤ length (now t)) ⌝ }
     ensures { λ _. ⌜ Outside j len (now (x .entry)) (now (x .exit)) ⌝ }
     ensures { λ _. ⌜ ((k : ℕ) → k < 64 * len → bits 64 (now (x .exit)) (64 * j + k)
-        ≡ flip (bits 64 (now (x .entry)) (64 * j + k)) (parity 8 (λ m. bits 64 (now (t .entry)) (64 * getD o m 0 + k)))) ⌝ }
+        ≡ flip (bits 64 (now (x .entry)) (64 * j + k)) (parity 7 (λ m. bits 64 (now (t .entry)) (64 * getD o m 0 + k)))) ⌝ }
 {
     let mut i = 0;
     while i < len {
-        x[j + i] = x[j + i] ^ eight(t, o, i);
+        x[j + i] = x[j + i] ^ seven(t, o, i);
         i += 1;
     }
 }
 
-// The rows that the window at bit w picks are added to x, for 8·passes words of a.
-fn add_window(x: &mut [u64], a: &[u64], t: &[u64], w: u64, n: usize, passes: usize)
-    requires { ⌜ (w < 64) × (n ≤ words) × (passes ≤ mostPasses) × (8 * passes + n ≤ length (now x)) × (length (now t) ≡ tableWords) ⌝ }
-    ensures { λ _. ⌜ ((b : Poly) → Multiples b 64 (now (t .entry)) → InRing (64 * n) b → (k : ℕ)
-        → bits 64 (now (x .exit)) k ≡ flip (bits 64 (now (x .entry)) k) (parity (8 * passes)
-        (λ j. shifted (64 * j) (wide 6 (λ e. bitAt (getD (now (a .entry)) j 0) (w + e)) b) k))) ⌝ }
+// The rows that the window at bit w picks are added to x, for the n words of a.
+fn add_window(x: &mut [u64], a: &[u64], t: &[u64], w: u64, n: usize)
+    requires { ⌜ (w < 64) × (n ≤ leafWords) × (n % 7 ≡ 0) × (length (now a) ≡ n) × (2 * n ≤ length (now x)) × (length (now t) ≡ tableWords) ⌝ }
+    ensures { λ _. ⌜ ((b : Poly) → Multiples b 32 (now (t .entry)) → InRing (64 * n) b → (k : ℕ)
+        → bits 64 (now (x .exit)) k ≡ flip (bits 64 (now (x .entry)) k) (parity n
+        (λ j. shifted (64 * j) (wide 5 (λ e. bitAt (getD (now (a .entry)) j 0) (w + e)) b) k))) ⌝ }
 {
-    let mut i = 0;
-    while i < passes {
-        let j = 8 * i;
-        add_rows(x, j, t, offsets(a, j, w), n + 8);
-        i += 1;
+    let mut j = 0;
+    while j < n {
+        add_rows(x, j, t, offsets(a, j, w), n + 7);
+        j += 7;
     }
 }
 
-// x times X^6, as far as `len` words hold it.
+// x times X^5, as far as `len` words hold it.
 fn shift_up(x: &mut [u64], len: usize)
     requires { ⌜ len ≤ length (now x) ⌝ }
-    ensures { λ _. ⌜ ((k : ℕ) → k < 64 * len → bits 64 (now (x .exit)) k ≡ shifted 6 (bits 64 (now (x .entry))) k) ⌝ }
+    ensures { λ _. ⌜ ((k : ℕ) → k < 64 * len → bits 64 (now (x .exit)) k ≡ shifted 5 (bits 64 (now (x .entry))) k) ⌝ }
 {
     let mut low = 0;
     let mut i = 0;
     while i < len {
         let high = x[i];
-        x[i] = funnel(low, high, 6);
+        x[i] = funnel(low, high, 5);
         low = high;
         i += 1;
     }
+}
+
+// The product of a, a leaf of n words, and of the one that the table is of. The highest window has 4 bits only: 65 is
+// the next multiple of 5 after 64.
+fn comb(a: &[u64], t: &[u64], n: usize) -> [u64; LEAF_WIDE]
+    requires { ⌜ (n ≤ leafWords) × (n % 7 ≡ 0) × (length (now a) ≡ n) × (length (now t) ≡ tableWords) ⌝ }
+    ensures { λ x. ⌜ ((b : Poly) → Multiples b 32 (now (t .entry)) → InRing (64 * n) b → (k : ℕ) → k < 128 * n
+        → bits 64 x k ≡ wide (64 * n) (bits 64 (now (a .entry))) b k) ⌝ }
+{
+    let mut x = [0u64; LEAF_WIDE];
+    let mut w = 65;
+    while 0 < w {
+        w -= 5;
+        shift_up(&mut x, 2 * n);
+        add_window(&mut x, a, t, w, n);
+    }
+    x
+}
+
+// The product of two leaves of n words.
+fn leaf(a: &[u64], b: &[u64], c: &mut [u64], t: &mut [u64], n: usize)
+    requires { ⌜ (n ≤ leafWords) × (n % 7 ≡ 0) × (length (now a) ≡ n) × (length (now b) ≡ n) × (length (now c) ≡ 2 * n) × Clear n (now t) ⌝ }
+    ensures { λ _. ⌜ Clear n (now (t .exit)) × (bits 64 (now (c .exit)) ≡ wide (64 * n) (bits 64 (now (a .entry))) (bits 64 (now (b .entry)))) ⌝ }
+{
+    multiples(t, b, n);
+    let x = comb(a, t, n);
+    place(c, &x[..2 * n], 0);
+}
+
+// m is added to c, from word `at` on.
+fn add(c: &mut [u64], at: usize, m: &[u64])
+    requires { ⌜ at + length (now m) ≤ length (now c) ⌝ }
+    ensures { λ _. ⌜ bits 64 (now (c .exit)) ≡ Polynomials.add (bits 64 (now (c .entry))) (shifted (64 * at) (bits 64 (now (m .entry)))) ⌝ }
+{
+    let mut i = 0;
+    while i < m.len() {
+        c[at + i] = c[at + i] ^ m[i];
+        i += 1;
+    }
+}
+
+// The sum of the two halves of a, each of h words.
+fn halves_sum(a: &[u64], h: usize) -> [u64; HALF]
+    requires { ⌜ (h ≤ 4 * leafWords) × (length (now a) ≡ 2 * h) ⌝ }
+    ensures { λ s. ⌜ bits 64 s ≡ Polynomials.add (bits 64 (take h (now (a .entry)))) (bits 64 (drop h (now (a .entry)))) ⌝ }
+{
+    let mut s = [0u64; HALF];
+    add(&mut s, 0, &a[..h]);
+    add(&mut s, 0, &a[h..]);
+    s
+}
+
+// The product of the low halves, and above it that of the high ones.
+fn outer(a: &[u64], b: &[u64], c: &mut [u64], t: &mut [u64], h: usize, depth: usize)
+    requires { ⌜ (depth < 3) × (h ≡ leafWords * 2 ^ depth) × (length (now a) ≡ 2 * h) × (length (now b) ≡ 2 * h) × (length (now c) ≡ 4 * h)
+        × Clear leafWords (now t) ⌝ }
+    ensures { λ _. ⌜ Clear leafWords (now (t .exit))
+        × (bits 64 (take (2 * h) (now (c .exit))) ≡ wide (64 * h) (bits 64 (take h (now (a .entry)))) (bits 64 (take h (now (b .entry)))))
+        × (bits 64 (drop (2 * h) (now (c .exit))) ≡ wide (64 * h) (bits 64 (drop h (now (a .entry)))) (bits 64 (drop h (now (b .entry))))) ⌝ }
+{
+    let n = 2 * h;
+    karatsuba(&a[..h], &b[..h], &mut c[..n], t, depth);
+    karatsuba(&a[h..], &b[h..], &mut c[n..], t, depth);
+}
+
+// 0, with room for a factor.
+fn factor_zeros() -> [u64; FACTOR]
+    ensures { λ x. ⌜ x ≡ replicate factorWords 0 ⌝ }
+{
+    [0u64; FACTOR]
+}
+
+// The product of the sums of the halves.
+fn middle(a: &[u64], b: &[u64], t: &mut [u64], h: usize, depth: usize) -> [u64; FACTOR]
+    requires { ⌜ (depth < 3) × (h ≡ leafWords * 2 ^ depth) × (length (now a) ≡ 2 * h) × (length (now b) ≡ 2 * h) × Clear leafWords (now t) ⌝ }
+    ensures { λ m. ⌜ Clear leafWords (now (t .exit)) × (bits 64 m
+        ≡ wide (64 * h) (Polynomials.add (bits 64 (take h (now (a .entry)))) (bits 64 (drop h (now (a .entry)))))
+        (Polynomials.add (bits 64 (take h (now (b .entry)))) (bits 64 (drop h (now (b .entry)))))) ⌝ }
+{
+    let sa = halves_sum(a, h);
+    let sb = halves_sum(b, h);
+    let mut m = factor_zeros();
+    let n = 2 * h;
+    karatsuba(&sa[..h], &sb[..h], &mut m[..n], t, depth);
+    m
+}
+
+// c has two products of 2·h words, one above the other: both of them are added to m, and m is added half-way.
+fn join(c: &mut [u64], m: &mut [u64], h: usize)
+    requires { ⌜ (length (now c) ≡ 4 * h) × (2 * h ≤ length (now m)) × InRing (128 * h) (bits 64 (now m)) ⌝ }
+    ensures { λ _. ⌜ bits 64 (now (c .exit)) ≡ Polynomials.add (bits 64 (now (c .entry)))
+        (shifted (64 * h) (Polynomials.add (Polynomials.add (bits 64 (now (m .entry)))
+        (bits 64 (take (2 * h) (now (c .entry))))) (bits 64 (drop (2 * h) (now (c .entry)))))) ⌝ }
+{
+    let n = 2 * h;
+    add(m, 0, &c[..n]);
+    add(m, 0, &c[n..]);
+    add(c, h, &m[..n]);
+}
+
+// The product of two factors of 49·2^depth words.
+fn karatsuba(a: &[u64], b: &[u64], c: &mut [u64], t: &mut [u64], depth: usize)
+    requires { ⌜ (depth < 4) × (length (now a) ≡ leafWords * 2 ^ depth) × (length (now b) ≡ leafWords * 2 ^ depth)
+        × (length (now c) ≡ 2 * (leafWords * 2 ^ depth)) × Clear leafWords (now t) ⌝ }
+    ensures { λ _. ⌜ Clear leafWords (now (t .exit)) × (bits 64 (now (c .exit))
+        ≡ wide (64 * length (now (a .entry))) (bits 64 (now (a .entry))) (bits 64 (now (b .entry)))) ⌝ }
+{
+    if depth == 0 {
+        leaf(a, b, c, t, 49);
+        return;
+    }
+    let h = a.len() / 2;
+    outer(a, b, c, t, h, depth - 1);
+    let mut m = middle(a, b, t, h, depth - 1);
+    join(c, &mut m, h);
 }
 
 // 0, with room for a product before it is reduced.
@@ -156,22 +281,47 @@ pub fn wide_zeros() -> [u64; WIDE]
     [0u64; WIDE]
 }
 
-// The product of two polynomials of n words, before reduction. The highest window has 4 bits only: 66 is the next
-// multiple of 6 after 64.
+// a, with words of 0 up to the longest factor.
+fn padded(a: [u64; WORDS]) -> [u64; FACTOR]
+    ensures { λ p. ⌜ bits 64 p ≡ bits 64 a ⌝ }
+{
+    let mut p = factor_zeros();
+    place(&mut p, &a, 0);
+    p
+}
+
+// How often a factor of n words is halved.
+fn depth_of(n: usize) -> usize
+    requires { ⌜ n ≤ words ⌝ }
+    ensures { λ d. ⌜ (d < 4) × (n ≤ leafWords * 2 ^ d) ⌝ }
+{
+    if n <= HALF {
+        return 2;
+    }
+    3
+}
+
+// The words of a factor that is halved so often.
+fn length_of(depth: usize) -> usize
+    requires { ⌜ depth < 4 ⌝ }
+    ensures { λ n. ⌜ n ≡ leafWords * 2 ^ depth ⌝ }
+{
+    LEAF << depth
+}
+
+// The product of two polynomials of n words, before reduction.
 fn wide_product(a: [u64; WORDS], b: [u64; WORDS], n: usize) -> [u64; WIDE]
     requires { ⌜ (n ≤ words) × (InRing (64 * n) (bits 64 a)) × (InRing (64 * n) (bits 64 b)) ⌝ }
     ensures { λ x. ⌜ ((k : ℕ) → k < 128 * n → bits 64 x k ≡ wide (64 * n) (bits 64 a) (bits 64 b) k) ⌝ }
 {
-    let t = multiples(b, n);
-    let passes = (n + 7) / 8;
-    let mut x = wide_zeros();
-    let mut w = 66;
-    while 0 < w {
-        w -= 6;
-        shift_up(&mut x, 8 * passes + n);
-        add_window(&mut x, &a, &t, w, n, passes);
-    }
-    x
+    let depth = depth_of(n);
+    let long = length_of(depth);
+    let pa = padded(a);
+    let pb = padded(b);
+    let mut c = wide_zeros();
+    let mut t = blank();
+    karatsuba(&pa[..long], &pb[..long], &mut c[..2 * long], &mut t, depth);
+    c
 }
 
 // X^r = 1: what stands from r on is added r further down.

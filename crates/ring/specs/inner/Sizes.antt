@@ -36,22 +36,25 @@ rowsBits = 3 * wordBits
 abbrev pub mostStarts : ℕ
 mostStarts = 8 * ((mostT + 7) / 8)
 
--- The dense product: a row of its table has one word more than a polynomial, and 7 words of 0 on each side; where row 1 has
--- the polynomial; the passes of eight words; the words of a product before it is reduced.
-abbrev pub rowWords : ℕ
-rowWords = words + 15
+-- The dense product: the words of a leaf, of the longest factor and of its product before it is reduced. A row of the comb's table has
+-- one word more than a leaf, after 6 words of 0 and before at least 6; where row 1 has the leaf itself.
+abbrev pub leafWords : ℕ
+leafWords = 49
 
-abbrev pub tableWords : ℕ
-tableWords = 64 * rowWords
-
-abbrev pub firstRow : ℕ
-firstRow = rowWords + 7
-
-abbrev pub mostPasses : ℕ
-mostPasses = (words + 7) / 8
+abbrev pub factorWords : ℕ
+factorWords = 8 * leafWords
 
 abbrev pub wideWords : ℕ
-wideWords = words + 8 * mostPasses
+wideWords = 2 * factorWords
+
+abbrev pub rowWords : ℕ
+rowWords = 64
+
+abbrev pub tableWords : ℕ
+tableWords = 32 * rowWords
+
+abbrev pub firstRow : ℕ
+firstRow = rowWords + 6
 
 -- what the sampler reads: 4 bytes for a position of an error
 abbrev pub errorBytes : ℕ

@@ -18,7 +18,7 @@ use Rattle.ring.proofs.multiply.shift_up.Tie as tie
 abbrev Inv-loop : tie.InvT-loop
 Inv-loop x₀ len low₀ i₀ x low i =
     (i ≤ len) × (length x ≡ length x₀) × (low ≡ getD (0 ∷ x₀) i 0) × ((j : ℕ) → i ≤ j → getD x j 0 ≡ getD x₀ j 0)
-    × ((j : ℕ) → j < i → (e : ℕ) → e < 64 → bitAt (getD x j 0) e ≡ shifted 6 (bits 64 x₀) (64 * j + e))
+    × ((j : ℕ) → j < i → (e : ℕ) → e < 64 → bitAt (getD x j 0) e ≡ shifted 5 (bits 64 x₀) (64 * j + e))
 
 abbrev μ-loop : tie.MeasureT-loop
 μ-loop x₀ len low₀ i₀ x low i = len - i
@@ -31,12 +31,12 @@ loop-again c =
       length-set (l .x) (l .i) (c .funnel .result) ∙ l .inv .1,
       rw add-one (l .inv .3 (l .i) (le-refl (l .i))),
       (λ j h. getD-set-other (l .x) (l .i) j (c .funnel .result) 0 (λ e. omega arith) ∙ l .inv .3 j (omega arith)),
-      filled (λ j y. (e : ℕ) → e < 64 → bitAt y e ≡ shifted 6 (bits 64 x₀) (64 * j + e)) (l .x) (l .i) (c .funnel .result) (omega arith)
+      filled (λ j y. (e : ℕ) → e < 64 → bitAt y e ≡ shifted 5 (bits 64 x₀) (64 * j + e)) (l .x) (l .i) (c .funnel .result) (omega arith)
           (l .inv .4)
           (λ e h.
           c .funnel .ensures e h
-          ∙ ap₂ (λ (low high : ℕ). bits 64 (low ∷ high ∷ []) (58 + e)) (l .inv .2) (l .inv .3 (l .i) (le-refl (l .i)))
-          ∙ carried x₀ 6 (l .i) e (lit≤ tt) h),
+          ∙ ap₂ (λ (low high : ℕ). bits 64 (low ∷ high ∷ []) (59 + e)) (l .inv .2) (l .inv .3 (l .i) (le-refl (l .i)))
+          ∙ carried x₀ 5 (l .i) e (lit≤ tt) h),
     )
 
 pub shift-up-spec : {M : Type 1} → statement M
@@ -58,5 +58,5 @@ shift-up-spec =
     (λ c.
     let l = c .before .loop in
     let all : l .i ≡ c .before .before .before .args .len = omega arith in
-    bits-by 64 (l .x) (shifted 6 (bits 64 (c .before .before .before .args .x .now))) (c .before .before .before .args .len) (lit< tt)
+    bits-by 64 (l .x) (shifted 5 (bits 64 (c .before .before .before .args .x .now))) (c .before .before .before .args .len) (lit< tt)
     (λ j h. l .inv .4 j (omega arith))))

@@ -1,90 +1,89 @@
--- `multiply::wide_product` meets its contract: the windows from bit w on are done, whatever polynomial b the table is of. Assumes nothing.
-use mathlib.Core.Path.{_≡_, refl, sym, ap, _∙_}
-use mathlib.Core.Bool.{Bool}
+-- `multiply::wide_product` meets its contract. Assumes nothing.
+use mathlib.Core.Path.{_≡_, sym, ap, ap₂, _∙_}
 use mathlib.Core.List.{List}
-use Prim.Native.Nat.{ℕ, _+_, _-_, _*_, _/_, _%_, _^_, _≤_, _<_}
+use Prim.Native.Nat.{ℕ, _+_, _-_, _*_, _≤_}
 use native.Mathlib.Omega.{arith}
 use borrow.Author.Needs.{needs}
-use lib.ListN.{length, getD}
-use mir.Syntax.{w64}
-use mir.Val.{Fits}
+use lib.ListN.{length, take}
+use lib.Pow.{pow-mono}
+use lib.Seq.{length-take-le}
 use Rattle.hashing.specs.Lists.{bits}
-use Rattle.hashing.proofs.Words.{bits-none}
-use Rattle.ring.specs.Polynomials.{Poly, InRing, flip, parity}
-use Rattle.ring.specs.inner.Wide.{shifted, wide, Multiples}
-use Rattle.ring.specs.inner.Sizes.{wideWords}
-use Rattle.ring.proofs.Shifts.{shifted-ext, wide-more}
-use Rattle.ring.proofs.multiply.Laws.{picked, combed, combed-none, combed-more, combed-all}
+use Rattle.ring.specs.Polynomials.{Poly, InRing}
+use Rattle.ring.specs.inner.Wide.{wide}
+use Rattle.ring.specs.inner.Sizes.{leafWords, factorWords, wideWords}
+use Rattle.ring.proofs.Shifts.{wide-more}
+use Rattle.ring.proofs.multiply.Laws.{clear-none}
+use Rattle.ring.proofs.multiply.Parts.{bits-front, front-back}
 use Rattle.ring.proofs.multiply.wide_product.Statement.{statement}
 use Rattle.ring.proofs.multiply.wide_product.Tie as tie
 
-abbrev Inv-loop : tie.InvT-loop
-Inv-loop n a t passes x₀ w₀ x w =
-    (w ≤ 66) × (w % 6 ≡ 0) × (length x ≡ wideWords)
-    × ((b : Poly) → Multiples b 64 t → InRing (64 * n) b → (k : ℕ) → k < 64 * (8 * passes + n) → bits 64 x k ≡ combed (8 * passes) a b w k)
+-- the words that are multiplied
+module _ (c : tie.After-length-of) where
+  abbrev long : ℕ
+  long = c .length-of .result
 
-abbrev μ-loop : tie.MeasureT-loop
-μ-loop n a t passes x₀ w₀ x w = w
+  room : long ≤ factorWords
+  room = omega (arith, c .length-of .ensures, pow-mono {i = c .before .depth-of .result} {j = 3} (omega (arith, c .before .depth-of .ensures .0)))
 
-loop-again : tie.Need-loop-again Inv-loop μ-loop
-loop-again c =
-    let l = c .before .before .before .before .before .before .before .before .before .loop in
-    let a = c .before .before .before .before .before .before .before .before .before .before .before .before .args in
-    let n = 8 * ((a .n + 7) / 8) in
-    let shift = c .before .before .before .before .before .before .shift-up in
-    let back : l .w - 6 + 6 ≡ l .w = omega arith in (
-      omega arith,
-      omega arith,
-      omega arith,
-      λ b rows inside k h.
-          c .before .add-window .ensures b rows inside k
-          ∙ ap (λ (p : Bool). flip p (parity n (λ j. shifted (64 * j) (picked (a .t1) (l .w - 6) b j) k)))
-          (shift .ensures k h
-          ∙ shifted-ext 6 (bits 64 (l .x)) (combed n (a .t1) b (l .w - 6 + 6)) k (rw back (l .inv .3 b rows inside (k - 6) (omega arith))))
-          ∙ sym (combed-more n (a .t1) b (l .w - 6) k (omega arith)),
-    )
+  front : (x : List ℕ) → length x ≡ factorWords → length (take long x) ≡ long
+  front x all = length-take-le long x (omega (arith, room))
 
-returns : tie.Need-returns Inv-loop μ-loop
-returns c k h =
-    let l = c .before .loop in
-    let a = c .before .before .before .before .args in
-    let pre = c .before .before .before .before .pre in
-    let n = 8 * ((a .n + 7) / 8) in
-    let none : l .w ≡ 0 = omega arith in
-    let fits : (j : ℕ) → getD (a .t1) j 0 < 2 ^ 64 = λ j. let f : Fits w64 (getD (a .t1) j 0) = search needs in f .fits in
-    let more : 64 * n ≡ 64 * a .n + (64 * n - 64 * a .n) = omega arith in
-    l .inv .3 (bits 64 (a .b)) (c .before .before .before .multiples .ensures) (pre .2) k (omega arith)
-    ∙ ap (λ (w : ℕ). combed n (a .t1) (bits 64 (a .b)) w k) none ∙ combed-all n (a .t1) (bits 64 (a .b)) k fits
-    ∙ ap (λ (m : ℕ). wide m (bits 64 (a .t1)) (bits 64 (a .b)) k) more
-    ∙ wide-more (64 * a .n) (64 * n - 64 * a .n) (bits 64 (a .t1)) (bits 64 (a .b)) k (pre .1)
+  -- a padded factor has the coefficients of the factor there
+  factor : (a p : List ℕ) → length p ≡ factorWords → InRing (64 * c .before .before .args .n) (bits 64 a) → bits 64 p ≡ bits 64 a
+      → bits 64 (take long p) ≡ bits 64 a
+  factor a p all inside same =
+      let covers : c .before .before .args .n ≤ long = omega (arith, c .before .depth-of .ensures .1, c .length-of .ensures) in
+      bits-front long p (omega (arith, room)) (rw same (λ k above. inside k (omega arith))) ∙ same
+
+module _ (c : tie.After-wide-zeros) where
+  both : length (take (2 * long (c .before .before .before)) (c .wide-zeros .result)) ≡ 2 * long (c .before .before .before)
+  both = length-take-le (2 * long (c .before .before .before)) (c .wide-zeros .result) (omega (arith, room (c .before .before .before)))
+
+returns : tie.Need-returns
+returns c k below =
+    let product = c .before .before .karatsuba in
+    let zeros = c .before .before .before .before .before .before .before .before in
+    let pb = zeros .before .padded2 in
+    let pa = zeros .before .before .padded in
+    let chosen = zeros .before .before .before in
+    let start = chosen .before .before in
+    let a = start .args .a in
+    let b = start .args .b in
+    let n = 64 * start .args .n in
+    let m = long chosen in
+    let more : 64 * m ≡ n + (64 * m - n) = omega (arith, chosen .before .depth-of .ensures .1, chosen .length-of .ensures) in
+    ap (λ (p : Poly). p k)
+    (front-back (2 * m) wideWords (zeros .wide-zeros .result) (product .last .1 .1 .0) (zeros .wide-zeros .ensures) (product .kept .1 .1 .0 ∙ both zeros)
+    ∙ product .ensures .1
+    ∙ ap (λ (m : ℕ). wide (64 * m) (bits 64 (take (long chosen) (pa .result))) (bits 64 (take (long chosen) (pb .result)))) (front chosen (pa .result) (omega arith))
+    ∙ ap₂ (wide (64 * m)) (factor chosen a (pa .result) (omega arith) (start .pre .1) (pa .ensures)) (factor chosen b (pb .result) (omega arith) (start .pre .2) (pb .ensures)))
+    ∙ ap (λ (m : ℕ). wide m (bits 64 a) (bits 64 b) k) more ∙ wide-more n (64 * m - n) (bits 64 a) (bits 64 b) k (start .pre .1)
 
 pub wide-product-spec : {M : Type 1} → statement M
 wide-product-spec =
     tie.close
     (tie.spec
-    Inv-loop
-    μ-loop
-    (λ c κs. search needs)
-    (λ c. omega arith)
-    (λ c κs. search needs)
-    (λ c.
-    let n = c .before .before .args .n in (
-      omega arith,
-      refl,
-      omega arith,
-      λ b rows inside k h.
-          ap (λ (x : List ℕ). bits 64 x k) (c .wide-zeros .ensures) ∙ bits-none 64 wideWords k
-          ∙ sym (combed-none (8 * ((n + 7) / 8)) (c .before .before .args .t1) b k),
+    (λ c κs. c .pre .0)
+    (λ c κs. c .depth-of .ensures .0)
+    (λ c κs. tt)
+    (λ c κs. tt)
+    (λ c κs. tt)
+    (λ c κs. tt)
+    (λ c. omega (arith, room (c .before .before .before .before)))
+    (λ c. sym (front (c .before .before .before .before .before) (c .before .before .before .before .padded .result) (omega arith)))
+    (λ c. omega (arith, room (c .before .before .before .before .before)))
+    (λ c. sym (front (c .before .before .before .before .before .before) (c .before .before .before .before .padded2 .result) (omega arith)))
+    (λ c. omega (arith, room (c .before .before .before .before .before .before)))
+    (λ c. omega (arith, room (c .before .before .before .before .before .before)))
+    (λ c. sym (both (c .before .before .before .before)))
+    (λ c. search needs)
+    (λ c κs.
+    let chosen = c .before .before .before .before .before .before .before .before in
+    let size = chosen .length-of .ensures in (
+      chosen .before .depth-of .ensures .0,
+      front chosen (c .before .before .before .before .before .before .before .padded .result) (omega arith) ∙ size,
+      front chosen (c .before .before .before .before .before .before .padded2 .result) (omega arith) ∙ size,
+      both (c .before .before .before .before .before) ∙ ap (_*_ 2) size,
+      clear-none leafWords (c .before .before .before .before .blank .result) (c .before .before .before .before .blank .ensures),
     ))
-    (λ c. omega arith)
-    (λ c. search needs)
-    (λ c. omega arith)
-    (λ c. omega arith)
-    (λ c κs. omega arith)
-    (λ c. omega arith)
-    (λ c. search needs)
-    (λ c. search needs)
-    (λ c κs. search needs)
-    (λ c. omega arith)
-    loop-again
     returns)
