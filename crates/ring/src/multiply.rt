@@ -198,15 +198,14 @@ fn add(c: &mut [u64], at: usize, m: &[u64])
     }
 }
 
-// The sum of the two halves of a, each of h words.
-fn halves_sum(a: &[u64], h: usize) -> [u64; HALF]
-    requires { ⌜ (h ≤ 4 * leafWords) × (length (now a) ≡ 2 * h) ⌝ }
-    ensures { λ s. ⌜ bits 64 s ≡ Polynomials.add (bits 64 (take h (now (a .entry)))) (bits 64 (drop h (now (a .entry)))) ⌝ }
+// The two halves of a, each of h words, are added to s.
+fn add_halves(s: &mut [u64], a: &[u64], h: usize)
+    requires { ⌜ (length (now a) ≡ 2 * h) × (h ≤ length (now s)) ⌝ }
+    ensures { λ _. ⌜ bits 64 (now (s .exit)) ≡ Polynomials.add (Polynomials.add (bits 64 (now (s .entry)))
+        (bits 64 (take h (now (a .entry))))) (bits 64 (drop h (now (a .entry)))) ⌝ }
 {
-    let mut s = [0u64; HALF];
-    add(&mut s, 0, &a[..h]);
-    add(&mut s, 0, &a[h..]);
-    s
+    add(s, 0, &a[..h]);
+    add(s, 0, &a[h..]);
 }
 
 // The product of the low halves, and above it that of the high ones.
@@ -222,39 +221,46 @@ fn outer(a: &[u64], b: &[u64], c: &mut [u64], t: &mut [u64], h: usize, depth: us
     karatsuba(&a[h..], &b[h..], &mut c[n..], t, depth);
 }
 
+// 0, with room for half of a factor.
+fn half_zeros() -> [u64; HALF]
+    ensures { λ x. ⌜ x ≡ replicate (4 * leafWords) 0 ⌝ }
+{
+    [0u64; HALF]
+}
+
+// The product of the sums of the halves, in the front of m.
+fn middle(a: &[u64], b: &[u64], m: &mut [u64], t: &mut [u64], h: usize, depth: usize)
+    requires { ⌜ (depth < 3) × (h ≡ leafWords * 2 ^ depth) × (length (now a) ≡ 2 * h) × (length (now b) ≡ 2 * h) × (2 * h ≤ length (now m))
+        × Clear leafWords (now t) ⌝ }
+    ensures { λ _. ⌜ Clear leafWords (now (t .exit)) × (bits 64 (take (2 * h) (now (m .exit)))
+        ≡ wide (64 * h) (Polynomials.add (bits 64 (take h (now (a .entry)))) (bits 64 (drop h (now (a .entry)))))
+        (Polynomials.add (bits 64 (take h (now (b .entry)))) (bits 64 (drop h (now (b .entry)))))) ⌝ }
+{
+    let mut x = half_zeros();
+    add_halves(&mut x, a, h);
+    let mut y = half_zeros();
+    add_halves(&mut y, b, h);
+    let n = 2 * h;
+    karatsuba(&x[..h], &y[..h], &mut m[..n], t, depth);
+}
+
+// c has two products of 2·h words, one above the other: both of them are added to m, and m is added half-way.
+fn join(c: &mut [u64], m: &mut [u64], h: usize)
+    requires { ⌜ (length (now c) ≡ 4 * h) × (2 * h ≤ length (now m)) ⌝ }
+    ensures { λ _. ⌜ bits 64 (now (c .exit)) ≡ Polynomials.add (bits 64 (now (c .entry)))
+        (shifted (64 * h) (Polynomials.add (Polynomials.add (bits 64 (take (2 * h) (now (m .entry))))
+        (bits 64 (take (2 * h) (now (c .entry))))) (bits 64 (drop (2 * h) (now (c .entry)))))) ⌝ }
+{
+    let n = 2 * h;
+    add_halves(m, c, n);
+    add(c, h, &m[..n]);
+}
+
 // 0, with room for a factor.
 fn factor_zeros() -> [u64; FACTOR]
     ensures { λ x. ⌜ x ≡ replicate factorWords 0 ⌝ }
 {
     [0u64; FACTOR]
-}
-
-// The product of the sums of the halves.
-fn middle(a: &[u64], b: &[u64], t: &mut [u64], h: usize, depth: usize) -> [u64; FACTOR]
-    requires { ⌜ (depth < 3) × (h ≡ leafWords * 2 ^ depth) × (length (now a) ≡ 2 * h) × (length (now b) ≡ 2 * h) × Clear leafWords (now t) ⌝ }
-    ensures { λ m. ⌜ Clear leafWords (now (t .exit)) × (bits 64 m
-        ≡ wide (64 * h) (Polynomials.add (bits 64 (take h (now (a .entry)))) (bits 64 (drop h (now (a .entry)))))
-        (Polynomials.add (bits 64 (take h (now (b .entry)))) (bits 64 (drop h (now (b .entry)))))) ⌝ }
-{
-    let sa = halves_sum(a, h);
-    let sb = halves_sum(b, h);
-    let mut m = factor_zeros();
-    let n = 2 * h;
-    karatsuba(&sa[..h], &sb[..h], &mut m[..n], t, depth);
-    m
-}
-
-// c has two products of 2·h words, one above the other: both of them are added to m, and m is added half-way.
-fn join(c: &mut [u64], m: &mut [u64], h: usize)
-    requires { ⌜ (length (now c) ≡ 4 * h) × (2 * h ≤ length (now m)) × InRing (128 * h) (bits 64 (now m)) ⌝ }
-    ensures { λ _. ⌜ bits 64 (now (c .exit)) ≡ Polynomials.add (bits 64 (now (c .entry)))
-        (shifted (64 * h) (Polynomials.add (Polynomials.add (bits 64 (now (m .entry)))
-        (bits 64 (take (2 * h) (now (c .entry))))) (bits 64 (drop (2 * h) (now (c .entry)))))) ⌝ }
-{
-    let n = 2 * h;
-    add(m, 0, &c[..n]);
-    add(m, 0, &c[n..]);
-    add(c, h, &m[..n]);
 }
 
 // The product of two factors of 49·2^depth words.
@@ -270,7 +276,8 @@ fn karatsuba(a: &[u64], b: &[u64], c: &mut [u64], t: &mut [u64], depth: usize)
     }
     let h = a.len() / 2;
     outer(a, b, c, t, h, depth - 1);
-    let mut m = middle(a, b, t, h, depth - 1);
+    let mut m = factor_zeros();
+    middle(a, b, &mut m, t, h, depth - 1);
     join(c, &mut m, h);
 }
 

@@ -1,6 +1,6 @@
 -- Laws of lists of words in parts, and of products of their halves. Assumes nothing.
 use mathlib.Core.Path.{_≡_, sym, ap, ap₂, _∙_, fun-ext}
-use mathlib.Core.Bool.{false}
+use mathlib.Core.Bool.{Bool, false}
 use mathlib.Core.List.{List, _++_, append-nil}
 use Prim.Native.Nat.{ℕ, zero, _+_, _-_, _*_, _/_, _%_, _^_, _≤_, _<_}
 use native.Mathlib.Nat.{mul-comm}
@@ -23,20 +23,20 @@ use Rattle.ring.proofs.multiply.Laws.{words-in}
 
 -- the first n words, and those after them
 module _ (n : ℕ) (x : List ℕ) where
-  pub bits-take : (k : ℕ) → k < 64 * n → bits 64 (take n x) k ≡ bits 64 x k
+  bits-take : (k : ℕ) → k < 64 * n → bits 64 (take n x) k ≡ bits 64 x k
   bits-take k h =
       bits-at 64 (take n x) (k / 64) (k % 64) (omega arith) (omega arith)
       ∙ ap (λ (v : ℕ). bitAt v (k % 64)) (getD-take n x (k / 64) 0 (omega arith)) ∙ sym (bits-at 64 x (k / 64) (k % 64) (omega arith) (omega arith))
 
-  pub take-in : n ≤ length x → InRing (64 * n) (bits 64 (take n x))
+  take-in : n ≤ length x → InRing (64 * n) (bits 64 (take n x))
   take-in long = words-in n (take n x) (length-take-le n x long)
 
-  pub bits-drop : (k : ℕ) → bits 64 (drop n x) k ≡ bits 64 x (64 * n + k)
+  bits-drop : (k : ℕ) → bits 64 (drop n x) k ≡ bits 64 x (64 * n + k)
   bits-drop k =
       bits-at 64 (drop n x) (k / 64) (k % 64) (omega arith) (omega arith)
       ∙ ap (λ (v : ℕ). bitAt v (k % 64)) (getD-drop n x (k / 64) 0) ∙ sym (bits-at 64 x (n + k / 64) (k % 64) (omega arith) (omega arith))
 
-  pub bits-parts : n ≤ length x → bits 64 x ≡ add (bits 64 (take n x)) (shifted (64 * n) (bits 64 (drop n x)))
+  bits-parts : n ≤ length x → bits 64 x ≡ add (bits 64 (take n x)) (shifted (64 * n) (bits 64 (drop n x)))
   unfolding add
   bits-parts long = fun-ext (λ k. go k (decLt k (64 * n)))
     where
@@ -66,10 +66,22 @@ module _ (n : ℕ) (x : List ℕ) where
     pub rest-long : length (take (length x - n) (drop n x)) ≡ n
     rest-long = ap length rest ∙ back-long
 
-    pub sum-in : InRing (64 * n) (add (bits 64 (take n x)) (bits 64 (drop n x)))
+    sum-in : InRing (64 * n) (add (bits 64 (take n x)) (bits 64 (drop n x)))
     sum-in = add-in (64 * n) (take-in (omega arith)) (words-in n (drop n x) back-long)
 
--- x comes back to the front of words of 0
+-- what is added in the ring of n words is added to the first n
+front-add : (n : ℕ) (x y : List ℕ) (p : Poly) → n ≤ length x → n ≤ length y → InRing (64 * n) p → bits 64 y ≡ add (bits 64 x) p
+    → bits 64 (take n y) ≡ add (bits 64 (take n x)) p
+unfolding add
+front-add n x y p long-x long-y inside sum =
+    ring-ext (64 * n) (take-in n y long-y) (add-in (64 * n) (take-in n x long-x) inside)
+    (λ k below. bits-take n y k below ∙ ap (λ (q : Poly). q k) sum ∙ ap (λ (b : Bool). flip b (p k)) (sym (bits-take n x k below)))
+
+-- x comes back to the front of z
+pub front-is : (n : ℕ) (z x : List ℕ) → length x ≡ n → take n (x ++ drop n z) ≡ x
+front-is n z x long = ap (λ (m : ℕ). take m (x ++ drop n z)) (sym long) ∙ take-append-seam x (drop n z)
+
+-- where z is words of 0
 pub front-back : (n all : ℕ) (z x : List ℕ) → z ≡ replicate all 0 → length x ≡ n → bits 64 (x ++ drop n z) ≡ bits 64 x
 front-back n all z x none long = fun-ext (λ k. go k (decLt k (64 * n)))
   where
@@ -108,38 +120,35 @@ pub power-twice : (d : ℕ) → zero < d → 2 ^ d ≡ 2 * 2 ^ (d - 1)
 power-twice d pos =
     let back : d ≡ d - 1 + 1 = omega arith in ap (_^_ 2) back ∙ pow-add 2 (d - 1) 1 ∙ mul-comm (2 ^ (d - 1)) 2
 
--- the sum of the halves of a, from words of 0
-pub summed : (n h : ℕ) (a x y : List ℕ) → bits 64 x ≡ add (bits 64 (replicate n 0)) (shifted 0 (bits 64 (take h a)))
-    → bits 64 y ≡ add (bits 64 x) (shifted 0 (bits 64 (take (length a - h) (drop h a)))) → bits 64 y ≡ add (bits 64 (take h a)) (bits 64 (drop h a))
-unfolding add
-summed n h a x y first second =
+-- the two halves of a are added to s
+pub halves-added : (h : ℕ) (a s x y : List ℕ) → bits 64 x ≡ add (bits 64 s) (shifted 0 (bits 64 (take h a)))
+    → bits 64 y ≡ add (bits 64 x) (shifted 0 (bits 64 (take (length a - h) (drop h a))))
+    → bits 64 y ≡ add (add (bits 64 s) (bits 64 (take h a))) (bits 64 (drop h a))
+halves-added h a s x y first second =
     second
-    ∙ ap₂ add (first ∙ ap₂ add (bits-zeros n) (shifted-zero (bits 64 (take h a))))
+    ∙ ap₂ add (first ∙ ap (add (bits 64 s)) (shifted-zero (bits 64 (take h a))))
     (shifted-zero (bits 64 (take (length a - h) (drop h a))) ∙ ap (bits 64) (rest h a))
 
--- and its words
-pub summed-front : (h : ℕ) (a x : List ℕ) → length a ≡ 2 * h → h ≤ length x → bits 64 x ≡ add (bits 64 (take h a)) (bits 64 (drop h a))
+-- to words of 0
+pub halves-sum : (h n : ℕ) (a z x : List ℕ) → length a ≡ 2 * h → h ≤ length x → z ≡ replicate n 0
+    → bits 64 x ≡ add (add (bits 64 z) (bits 64 (take h a))) (bits 64 (drop h a))
     → bits 64 (take h x) ≡ add (bits 64 (take h a)) (bits 64 (drop h a))
-summed-front h a x long room sum = bits-front h x room (rw sum (sum-in h a long)) ∙ sum
+unfolding add
+halves-sum h n a z x long room none all =
+    let sum : bits 64 x ≡ add (bits 64 (take h a)) (bits 64 (drop h a)) =
+    all ∙ ap (λ (p : Poly). add (add p (bits 64 (take h a))) (bits 64 (drop h a))) (ap (bits 64) none ∙ bits-zeros n) in
+    bits-front h x room (rw sum (sum-in h a long)) ∙ sum
 
--- the two halves of c are added to m, and m to c
-pub joined : (h : ℕ) (c m m1 m2 c2 : List ℕ) → length c ≡ 4 * h → InRing (128 * h) (bits 64 m)
-    → bits 64 m1 ≡ add (bits 64 m) (shifted 0 (bits 64 (take (2 * h) c)))
-    → bits 64 m2 ≡ add (bits 64 m1) (shifted 0 (bits 64 (take (length c - 2 * h) (drop (2 * h) c))))
-    → bits 64 c2 ≡ add (bits 64 c) (shifted (64 * h) (bits 64 (take (2 * h) m2))) → 2 * h ≤ length m2
-    → bits 64 c2 ≡ add (bits 64 c) (shifted (64 * h) (add (add (bits 64 m) (bits 64 (take (2 * h) c))) (bits 64 (drop (2 * h) c))))
-joined h c m m1 m2 c2 long inside low high whole room =
-    let sums : bits 64 m2 ≡ add (add (bits 64 m) (bits 64 (take (2 * h) c))) (bits 64 (drop (2 * h) c)) =
-    high
-    ∙ ap₂ add (low ∙ ap (add (bits 64 m)) (shifted-zero (bits 64 (take (2 * h) c))))
-    (shifted-zero (bits 64 (take (length c - 2 * h) (drop (2 * h) c))) ∙ ap (bits 64) (rest (2 * h) c)) in
-    let sums-in : InRing (64 * (2 * h)) (add (bits 64 m) (add (bits 64 (take (2 * h) c)) (bits 64 (drop (2 * h) c)))) =
-    add-in (64 * (2 * h)) (λ k above. inside k (omega arith)) (sum-in (2 * h) c (omega arith)) in
-    whole
-    ∙ ap (λ (p : Poly). add (bits 64 c) (shifted (64 * h) p))
-    (bits-front (2 * h) m2 room
-    (rw (sums, add-assoc (bits 64 m) (bits 64 (take (2 * h) c)) (bits 64 (drop (2 * h) c))) sums-in)
-    ∙ sums)
+-- to the front of m, and that to c
+pub joined : (h : ℕ) (c m m1 c1 : List ℕ) → length c ≡ 4 * h → 2 * h ≤ length m → length m1 ≡ length m
+    → bits 64 m1 ≡ add (add (bits 64 m) (bits 64 (take (2 * h) c))) (bits 64 (drop (2 * h) c))
+    → bits 64 c1 ≡ add (bits 64 c) (shifted (64 * h) (bits 64 (take (2 * h) m1)))
+    → bits 64 c1 ≡ add (bits 64 c) (shifted (64 * h) (add (add (bits 64 (take (2 * h) m)) (bits 64 (take (2 * h) c))) (bits 64 (drop (2 * h) c))))
+joined h c m m1 c1 long room same sums whole =
+    whole ∙ ap (λ (p : Poly). add (bits 64 c) (shifted (64 * h) p))
+    (front-add (2 * h) m m1 (add (bits 64 (take (2 * h) c)) (bits 64 (drop (2 * h) c))) room (omega arith) (sum-in (2 * h) c (omega arith))
+    (sums ∙ add-assoc (bits 64 m) (bits 64 (take (2 * h) c)) (bits 64 (drop (2 * h) c)))
+    ∙ sym (add-assoc (bits 64 (take (2 * h) m)) (bits 64 (take (2 * h) c)) (bits 64 (drop (2 * h) c))))
 
 -- x comes back to the first half of c, and y to the other
 pub replaced-long : (n : ℕ) (c x : List ℕ) → length c ≡ 2 * n → length x ≡ n → length (x ++ drop n c) ≡ 2 * n
@@ -148,7 +157,7 @@ replaced-long n c x long first = omega (arith, length-append x (drop n c), back-
 pub both-back : (n : ℕ) (c x y : List ℕ) → length c ≡ 2 * n → length x ≡ n
     → let d = putMid n (length (x ++ drop n c) - n) (x ++ drop n c) y in (take n d ≡ x) × (drop n d ≡ y)
 both-back n c x y long first = (
-  take-put n (length d - n) d y (omega (arith, long-d)) ∙ front,
+  take-put n (length d - n) d y (omega (arith, long-d)) ∙ front-is n c x first,
   ap (λ (m : ℕ). drop m (take n d ++ (y ++ drop (length d - n) (drop n d)))) (sym (length-take-le n d (omega (arith, long-d))))
       ∙ drop-append-seam (take n d) (y ++ drop (length d - n) (drop n d))
       ∙ ap (_++_ y) (drop-of-length-le (drop n d) {i = length d - n} (omega (arith, length-drop n d))) ∙ append-nil y,
@@ -160,17 +169,14 @@ both-back n c x y long first = (
     long-d : length d ≡ 2 * n
     long-d = replaced-long n c x long first
 
-    front : take n d ≡ x
-    front = ap (λ (m : ℕ). take m d) (sym first) ∙ take-append-seam x (drop n c)
-
 -- c has the products of the halves, one above the other; m, that of their sums, is joined to them
-pub halves-product : (h : ℕ) (a b c m c2 : List ℕ) → length a ≡ 2 * h → length b ≡ 2 * h → length c ≡ 4 * h
+pub halves-product : (h : ℕ) (a b c c1 : List ℕ) (m : Poly) → length a ≡ 2 * h → length b ≡ 2 * h → length c ≡ 4 * h
     → bits 64 (take (2 * h) c) ≡ wide (64 * h) (bits 64 (take h a)) (bits 64 (take h b))
     → bits 64 (drop (2 * h) c) ≡ wide (64 * h) (bits 64 (drop h a)) (bits 64 (drop h b))
-    → bits 64 m ≡ wide (64 * h) (add (bits 64 (take h a)) (bits 64 (drop h a))) (add (bits 64 (take h b)) (bits 64 (drop h b)))
-    → bits 64 c2 ≡ add (bits 64 c) (shifted (64 * h) (add (add (bits 64 m) (bits 64 (take (2 * h) c))) (bits 64 (drop (2 * h) c))))
-    → bits 64 c2 ≡ wide (64 * length a) (bits 64 a) (bits 64 b)
-halves-product h a b c m c2 long-a long-b long-c low high mid whole =
+    → m ≡ wide (64 * h) (add (bits 64 (take h a)) (bits 64 (drop h a))) (add (bits 64 (take h b)) (bits 64 (drop h b)))
+    → bits 64 c1 ≡ add (bits 64 c) (shifted (64 * h) (add (add m (bits 64 (take (2 * h) c))) (bits 64 (drop (2 * h) c))))
+    → bits 64 c1 ≡ wide (64 * length a) (bits 64 a) (bits 64 b)
+halves-product h a b c c1 m long-a long-b long-c low high mid whole =
     let twice : 64 * (2 * h) ≡ 64 * h + 64 * h = omega arith in
     let all : 64 * h + 64 * h ≡ 64 * length a = omega arith in
     whole
@@ -180,10 +186,3 @@ halves-product h a b c m c2 long-a long-b long-c low high mid whole =
     ∙ karatsuba (64 * h) (bits 64 (take h a)) (bits 64 (drop h a)) (bits 64 (take h b)) (bits 64 (drop h b)) (bits 64 a) (bits 64 b)
     (λ i less. sym (bits-take h a i less)) (λ i. sym (bits-drop h a i)) (bits-parts h b (omega arith))
     ∙ ap (λ (n : ℕ). wide n (bits 64 a) (bits 64 b)) all
-
--- the product of the sums, in the ring of the two halves
-pub mid-in : (h : ℕ) (b m : List ℕ) (A : Poly) → length b ≡ 2 * h
-    → bits 64 m ≡ wide (64 * h) A (add (bits 64 (take h b)) (bits 64 (drop h b))) → InRing (128 * h) (bits 64 m)
-mid-in h b m A long mid k above =
-    ap (λ (p : Poly). p k) mid
-    ∙ wide-in (64 * h) (64 * h) A (add (bits 64 (take h b)) (bits 64 (drop h b))) (sum-in h b long) k (omega arith)

@@ -8,14 +8,13 @@ use borrow.Fn.Kinds.{In}
 use borrow.Fn.PlainCycle.{Measures, is, falls, and}
 use borrow.Rule.Slice.PartMut.{same-len-mid}
 use lib.Dec.{lit≤}
-use lib.ListN.{length, take, drop}
+use lib.ListN.{length, take, drop, replicate, length-replicate}
 use lib.Pow.{pow-mono}
-use lib.Seq.{length-take-le}
+use lib.Seq.{length-take-le, length-front}
 use Rattle.hashing.specs.Lists.{bits}
-use Rattle.ring.specs.Polynomials.{add}
 use Rattle.ring.specs.inner.Wide.{wide}
 use Rattle.ring.specs.inner.Sizes.{leafWords, factorWords}
-use Rattle.ring.proofs.multiply.Parts.{rest, front-long, back-long, rest-long, replaced-long, both-back, front-back, summed-front, power-twice, mid-in, halves-product}
+use Rattle.ring.proofs.multiply.Parts.{rest, front-long, back-long, rest-long, replaced-long, both-back, front-is, halves-sum, power-twice, halves-product}
 use Rattle.ring.proofs.multiply.karatsuba.Reads as karatsuba
 use Rattle.ring.proofs.multiply.karatsuba.Kinds as karatsuba-kinds
 use Rattle.ring.proofs.multiply.+karatsuba+middle+outer.Lts-karatsuba as karatsuba-lts
@@ -25,7 +24,8 @@ use Rattle.ring.proofs.multiply.+karatsuba+middle+outer.Lts-middle as m
 use Rattle.ring.proofs.multiply.outer.Reads as outer
 use Rattle.ring.proofs.multiply.outer.Kinds as outer-kinds
 use Rattle.ring.proofs.multiply.+karatsuba+middle+outer.Lts-outer as outer-lts
-use Rattle.ring.proofs.multiply.halves_sum.Reads as halves-sum-reads
+use Rattle.ring.proofs.multiply.add_halves.Reads as add-halves-reads
+use Rattle.ring.proofs.multiply.half_zeros.Reads as half-zeros-reads
 use Rattle.ring.proofs.multiply.factor_zeros.Reads as factor-zeros-reads
 use Rattle.ring.proofs.multiply.join.Reads as join-reads
 use Rattle.ring.proofs.multiply.leaf.Reads as leaf-reads
@@ -35,8 +35,8 @@ use Rattle.ring.proofs.multiply.+karatsuba+middle+outer.Tie.{close}
 abbrev μ-karatsuba : Measures 4 karatsuba-kinds.ps ℕ
 μ-karatsuba κs a = 2 * a .1 .1 .1 .1 .0
 
-abbrev μ-middle : Measures 3 middle-kinds.ps ℕ
-μ-middle κs a = 2 * a .1 .1 .1 .1 .0 + 1
+abbrev μ-middle : Measures 4 middle-kinds.ps ℕ
+μ-middle κs a = 2 * a .1 .1 .1 .1 .1 .0 + 1
 
 abbrev μ-outer : Measures 4 outer-kinds.ps ℕ
 μ-outer κs a = 2 * a .1 .1 .1 .1 .1 .0 + 1
@@ -49,11 +49,11 @@ abbrev karatsuba-below : ℕ → In 4 karatsuba-kinds.ps
 karatsuba-below t =
     and 4 karatsuba-kinds.ps (falls 4 karatsuba-kinds.ps _<_ μ-karatsuba t) karatsuba.Pre
 
-abbrev middle-at : ℕ → In 3 middle-kinds.ps
-middle-at t = and 3 middle-kinds.ps (is 3 middle-kinds.ps μ-middle t) middle.Pre
+abbrev middle-at : ℕ → In 4 middle-kinds.ps
+middle-at t = and 4 middle-kinds.ps (is 4 middle-kinds.ps μ-middle t) middle.Pre
 
-abbrev middle-below : ℕ → In 3 middle-kinds.ps
-middle-below t = and 3 middle-kinds.ps (falls 3 middle-kinds.ps _<_ μ-middle t) middle.Pre
+abbrev middle-below : ℕ → In 4 middle-kinds.ps
+middle-below t = and 4 middle-kinds.ps (falls 4 middle-kinds.ps _<_ μ-middle t) middle.Pre
 
 abbrev outer-at : ℕ → In 4 outer-kinds.ps
 outer-at t = and 4 outer-kinds.ps (is 4 outer-kinds.ps μ-outer t) outer.Pre
@@ -63,10 +63,10 @@ outer-below t = and 4 outer-kinds.ps (falls 4 outer-kinds.ps _<_ μ-outer t) out
 
 -- what each is told of the functions that it calls
 abbrev karatsuba-calls : ℕ → karatsuba-lts.Claims
-karatsuba-calls t = (leaf-reads.Asked, leaf-reads.Learnt, outer-below t, outer.Post, middle-below t, middle.Post, join-reads.Asked, join-reads.Learnt)
+karatsuba-calls t = (leaf-reads.Asked, leaf-reads.Learnt, outer-below t, outer.Post, factor-zeros-reads.Asked, factor-zeros-reads.Learnt, middle-below t, middle.Post, join-reads.Asked, join-reads.Learnt)
 
 abbrev middle-calls : ℕ → middle-lts.Claims
-middle-calls t = (halves-sum-reads.Asked, halves-sum-reads.Learnt, factor-zeros-reads.Asked, factor-zeros-reads.Learnt, karatsuba-below t, karatsuba.Post)
+middle-calls t = (half-zeros-reads.Asked, half-zeros-reads.Learnt, add-halves-reads.Asked, add-halves-reads.Learnt, karatsuba-below t, karatsuba.Post)
 
 abbrev outer-calls : ℕ → outer-lts.Claims
 outer-calls t = (karatsuba-below t, karatsuba.Post)
@@ -154,43 +154,47 @@ module _ (t : ℕ) where
     half : c .args .h ≤ 4 * leafWords
     half = omega (arith, c .pre .1 .1, pow-mono {i = c .args .depth} {j = 2} (omega (arith, c .pre .1 .0)))
 
-    sum-front : (x : List ℕ) → length x ≡ 4 * leafWords → length (take (c .args .h) x) ≡ c .args .h
-    sum-front x all = length-take-le (c .args .h) x (omega (arith, half))
+    room : (z x : List ℕ) → z ≡ replicate (4 * leafWords) 0 → length x ≡ length z → c .args .h ≤ length x
+    room z x none same = omega (arith, half, same, ap length none, length-replicate {A = ℕ} (4 * leafWords) 0)
 
-    product-front : (x : List ℕ) → length x ≡ factorWords → length (take (2 * c .args .h) x) ≡ 2 * c .args .h
-    product-front x all = length-take-le (2 * c .args .h) x (omega (arith, half))
+    front : (z x : List ℕ) → z ≡ replicate (4 * leafWords) 0 → length x ≡ length z → length (take (c .args .h) x) ≡ c .args .h
+    front z x none same = length-take-le (c .args .h) x (room z x none same)
 
   middle-product : middle-lts.Need-karatsuba-requires (middle-calls t) (middle-at t) middle.Post
   middle-product c κs =
-      let start = c .before .before .before .before .before .before .before .before .before .before in
+      let start = c .before .before .before .before .before .before .before .before .before .before .before .before .before .before .before .before in
       let a = start .args in
       let pre = start .pre .1 in
       let deeper : 2 * a .depth + 1 ≡ t = start .pre .0 in (
         omega arith,
         (
           omega arith,
-          sum-front start (c .before .before .before .before .before .before .halves-sum .result) (omega arith) ∙ pre .1,
-          sum-front start (c .before .before .before .before .before .halves-sum2 .result) (omega arith) ∙ pre .1,
-          product-front start (c .before .before .before .before .factor-zeros .result) (omega arith) ∙ ap (_*_ 2) (pre .1),
-          pre .4,
+          front start (c .before .before .before .before .before .before .before .before .before .before .before .half-zeros .result) (c .before .before .before .before .before .before .before .before .before .add-halves .last .0) (c .before .before .before .before .before .before .before .before .before .before .before .half-zeros .ensures) (c .before .before .before .before .before .before .before .before .before .add-halves .kept .0) ∙ pre .1,
+          front start (c .before .before .before .before .before .before .before .half-zeros2 .result) (c .before .before .before .before .before .add-halves2 .last .0) (c .before .before .before .before .before .before .before .half-zeros2 .ensures) (c .before .before .before .before .before .add-halves2 .kept .0) ∙ pre .1,
+          length-take-le (2 * a .h) (a .m .now) (pre .4) ∙ ap (_*_ 2) (pre .1),
+          pre .5,
         ),
       )
 
   middle-returns : middle-lts.Need-returns (middle-calls t) (middle-at t) middle.Post
   middle-returns c =
-      let k = c .before .before .before .karatsuba in
-      let zeros = c .before .before .before .before .before .before .before .before .factor-zeros in
-      let first = c .before .before .before .before .before .before .before .before .before .before .halves-sum in
-      let second = c .before .before .before .before .before .before .before .before .before .halves-sum2 in
-      let start = c .before .before .before .before .before .before .before .before .before .before .before .before .before .before in
+      let k = c .before .before .before .before .karatsuba in
+      let second = c .before .before .before .before .before .before .before .before .before .before .add-halves2 in
+      let first = c .before .before .before .before .before .before .before .before .before .before .before .before .before .before .add-halves in
+      let none-x = c .before .before .before .before .before .before .before .before .before .before .before .before .before .before .before .before .half-zeros in
+      let none-y = c .before .before .before .before .before .before .before .before .before .before .before .before .half-zeros2 in
+      let start = c .before .before .before .before .before .before .before .before .before .before .before .before .before .before .before .before .before .before .before .before .before in
       let a = start .args in
       let pre = start .pre .1 in
-      let long = k .kept .1 .1 .0 ∙ product-front start (zeros .result) (omega arith) in (
+      let x = first .last .0 in
+      let y = second .last .0 in (
         k .ensures .0,
-        front-back (2 * a .h) factorWords (zeros .result) (k .last .1 .1 .0) (zeros .ensures) long ∙ k .ensures .1
-            ∙ ap (λ (n : ℕ). wide (64 * n) (bits 64 (take (a .h) (first .result))) (bits 64 (take (a .h) (second .result)))) (sum-front start (first .result) (omega arith))
-            ∙ ap₂ (wide (64 * a .h)) (summed-front (a .h) (a .a .now) (first .result) (pre .2) (omega (arith, half start)) (first .ensures))
-            (summed-front (a .h) (a .b .now) (second .result) (pre .3) (omega (arith, half start)) (second .ensures)),
+        ap (bits 64) (front-is (2 * a .h) (a .m .now) (k .last .1 .1 .0) (k .kept .1 .1 .0 ∙ length-take-le (2 * a .h) (a .m .now) (pre .4)))
+            ∙ k .ensures .1
+            ∙ ap (λ (n : ℕ). wide (64 * n) (bits 64 (take (a .h) x)) (bits 64 (take (a .h) y))) (front start (none-x .result) x (none-x .ensures) (first .kept .0))
+            ∙ ap₂ (wide (64 * a .h))
+            (halves-sum (a .h) (4 * leafWords) (a .a .now) (none-x .result) x (pre .2) (room start (none-x .result) x (none-x .ensures) (first .kept .0)) (none-x .ensures) (first .ensures))
+            (halves-sum (a .h) (4 * leafWords) (a .b .now) (none-y .result) y (pre .3) (room start (none-y .result) y (none-y .ensures) (second .kept .0)) (none-y .ensures) (second .ensures)),
       )
 
 -- ---- `karatsuba`
@@ -236,6 +240,9 @@ module _ (t : ℕ) where
     long-c : length (given .args .c .now) ≡ 4 * h
     long-c = omega (arith, given .pre .1 .1, given .pre .1 .3, long-a)
 
+    fits : length (given .args .a .now) ≤ factorWords
+    fits = omega (arith, given .pre .1 .1, pow-mono {i = given .args .depth} {j = 3} (omega (arith, given .pre .1 .0)))
+
     less : 2 * (given .args .depth - 1) + 1 < t
     less = let deeper : 2 * given .args .depth ≡ t = given .pre .0 in omega (arith, deep)
 
@@ -245,41 +252,36 @@ module _ (t : ℕ) where
 
   karatsuba-middle : karatsuba-lts.Need-middle-requires (karatsuba-calls t) (karatsuba-at t) karatsuba.Post
   karatsuba-middle c κs =
-      let e = c .before .before .before .before .before .before .before .before in
-      (less e, (omega (arith, deep e, given e .pre .1 .0), half-is e, long-a e, long-b e, c .before .before .before .before .before .outer .ensures .0))
+      let e = c .before .before .before .before .before .before .before .before .before .before in (
+        less e,
+        (omega (arith, deep e, given e .pre .1 .0), half-is e, long-a e, long-b e, omega (arith, long-a e, fits e), c .before .before .before .before .before .before .before .outer .ensures .0),
+      )
 
   -- the product of the sums is there
-  module _ (c : karatsuba-lts.After-m (karatsuba-calls t) (karatsuba-at t) karatsuba.Post) where
+  module _ (c : karatsuba-lts.After-m3 (karatsuba-calls t) (karatsuba-at t) karatsuba.Post) where
     abbrev else : karatsuba-lts.Else1 (karatsuba-calls t) (karatsuba-at t) karatsuba.Post
-    else = c .before .before .before .before .before .before .before .before .before .before .before .before .before
+    else = c .before .before .before .before .before .before .before .before .before .before .before .before .before .before .before .before
 
     abbrev outside : List ℕ
-    outside = c .before .before .before .before .before .before .before .before .before .before .outer .last .1 .1 .0
+    outside = c .before .before .before .before .before .before .before .before .before .before .before .before .before .outer .last .1 .1 .0
 
     outside-long : length outside ≡ 4 * h else
-    outside-long = c .before .before .before .before .before .before .before .before .before .before .outer .kept .1 .1 .0 ∙ long-c else
+    outside-long = c .before .before .before .before .before .before .before .before .before .before .before .before .before .outer .kept .1 .1 .0 ∙ long-c else
 
   karatsuba-join : karatsuba-lts.Need-join-requires (karatsuba-calls t) (karatsuba-at t) karatsuba.Post
   karatsuba-join c κs =
-      let m = c .before .before .before .before .middle in
-      let e = else c in
-      let a = given e .args .a .now in
-      let b = given e .args .b .now in (
-        outside-long c,
-        omega (arith, long-a e, given e .pre .1 .1, pow-mono {i = given e .args .depth} {j = 3} (omega (arith, given e .pre .1 .0))),
-        mid-in (h e) b (m .result) (add (bits 64 (take (h e) a)) (bits 64 (drop (h e) a))) (long-b e) (m .ensures .1),
-      )
+      let e = else c in (outside-long c, omega (arith, long-a e, fits e, c .before .before .before .before .before .middle .kept .1 .1 .0))
 
   karatsuba-returns-2 : karatsuba-lts.Need-returns-2 (karatsuba-calls t) (karatsuba-at t) karatsuba.Post
   karatsuba-returns-2 c =
       let last = c .before .before .before .before in
       let e = else last in
-      let m = last .before .before .before .before .middle in
-      let o = last .before .before .before .before .before .before .before .before .before .before .outer in
+      let m = last .before .before .before .before .before .middle in
+      let o = last .before .before .before .before .before .before .before .before .before .before .before .before .before .outer in
       let j = c .before .before .before .join in (
         m .ensures .0,
-        halves-product (h e) (given e .args .a .now) (given e .args .b .now) (outside last) (m .result) (j .last .0) (long-a e) (long-b e) (outside-long last)
-            (o .ensures .1) (o .ensures .2) (m .ensures .1) (j .ensures),
+        halves-product (h e) (given e .args .a .now) (given e .args .b .now) (outside last) (j .last .0) (bits 64 (take (2 * h e) (m .last .1 .1 .0)))
+            (long-a e) (long-b e) (outside-long last) (o .ensures .1) (o .ensures .2) (m .ensures .1) (j .ensures),
       )
 
 pub +karatsuba+middle+outer-spec : {M : Type 1} → statement M
@@ -292,26 +294,32 @@ pub +karatsuba+middle+outer-spec : {M : Type 1} → statement M
     (karatsuba-returns t)
     (λ c. deep t (c .before .before))
     (karatsuba-outer t)
-    (λ c. deep t (c .before .before .before .before .before .before .before .before))
+    (λ c κs. tt)
+    (λ c. search needs)
+    (λ c. deep t (c .before .before .before .before .before .before .before .before .before .before))
     (karatsuba-middle t)
     (λ c. search needs)
     (karatsuba-join t)
-    (λ c. c .before .before .before .join .kept .0 ∙ c .before .before .before .before .before .before .before .before .before .before .before .before .before .before .outer .kept .1 .1 .0)
-    (λ c. c .before .before .before .before .before .before .before .before .middle .kept .1 .1 .0 ∙ c .before .before .before .before .before .before .before .before .before .before .before .before .before .before .outer .kept .1 .1 .1 .0)
+    (λ c. c .before .before .before .join .kept .0 ∙ c .before .before .before .before .before .before .before .before .before .before .before .before .before .before .before .before .before .outer .kept .1 .1 .0)
+    (λ c. c .before .before .before .before .before .before .before .before .before .middle .kept .1 .1 .1 .0 ∙ c .before .before .before .before .before .before .before .before .before .before .before .before .before .before .before .before .before .outer .kept .1 .1 .1 .0)
     (karatsuba-returns-2 t))
     (λ t. middle-lts.spec (middle-calls t) (middle-at t) middle.Post
-    (λ c κs. (half t (c .before .before .before), c .before .before .before .pre .1 .2))
-    (λ c κs. (half t (c .before .before .before .before), c .before .before .before .before .pre .1 .3))
     (λ c κs. tt)
-    (λ c. omega (arith, half t (c .before .before .before .before .before .before)))
-    (λ c. omega (arith, half t (c .before .before .before .before .before .before)))
-    (λ c. sym (sum-front t (c .before .before .before .before .before .before .before) (c .before .before .before .halves-sum .result) (omega arith)))
-    (λ c. omega (arith, half t (c .before .before .before .before .before .before .before)))
-    (λ c. sym (sum-front t (c .before .before .before .before .before .before .before .before) (c .before .before .before .halves-sum2 .result) (omega arith)))
-    (λ c. omega (arith, half t (c .before .before .before .before .before .before .before .before)))
-    (λ c. sym (product-front t (c .before .before .before .before .before .before .before .before .before) (c .before .before .before .factor-zeros .result) (omega arith)))
+    (λ c. search needs)
+    (λ c κs. (c .before .before .before .before .before .before .pre .1 .2, omega (arith, half t (c .before .before .before .before .before .before))))
+    (λ c κs. tt)
+    (λ c. search needs)
+    (λ c κs. (c .before .before .before .before .before .before .before .before .before .before .pre .1 .3, omega (arith, half t (c .before .before .before .before .before .before .before .before .before .before))))
+    (λ c. omega (arith, half t (c .before .before .before .before .before .before .before .before .before .before .before .before)))
+    (λ c. let z = c .before .before .before .before .before .before .before .half-zeros in let x = c .before .before .before .before .before .add-halves in room t (c .before .before .before .before .before .before .before .before .before .before .before .before) (z .result) (x .last .0) (z .ensures) (x .kept .0))
+    (λ c. let z = c .before .before .before .before .before .before .before .before .half-zeros in let x = c .before .before .before .before .before .before .add-halves in sym (front t (c .before .before .before .before .before .before .before .before .before .before .before .before .before) (z .result) (x .last .0) (z .ensures) (x .kept .0)))
+    (λ c. let z = c .before .before .before .before .half-zeros2 in let y = c .before .before .add-halves2 in room t (c .before .before .before .before .before .before .before .before .before .before .before .before .before) (z .result) (y .last .0) (z .ensures) (y .kept .0))
+    (λ c. let z = c .before .before .before .before .before .half-zeros2 in let y = c .before .before .before .add-halves2 in sym (front t (c .before .before .before .before .before .before .before .before .before .before .before .before .before .before) (z .result) (y .last .0) (z .ensures) (y .kept .0)))
+    (λ c. c .before .before .before .before .before .before .before .before .before .before .before .before .before .before .pre .1 .4)
+    (λ c. sym (length-take-le (2 * c .before .before .before .before .before .before .before .before .before .before .before .before .before .before .before .args .h) (c .before .before .before .before .before .before .before .before .before .before .before .before .before .before .before .args .m .now) (c .before .before .before .before .before .before .before .before .before .before .before .before .before .before .before .pre .1 .4)))
     (middle-product t)
-    (λ c. c .before .before .before .karatsuba .kept .1 .1 .1 .0)
+    (λ c. length-front (c .before .before .before .before .before .before .before .before .before .before .before .before .before .before .before .before .before .before .before .before .before .args .m .now) (c .before .before .before .before .karatsuba .last .1 .1 .0) (2 * c .before .before .before .before .before .before .before .before .before .before .before .before .before .before .before .before .before .before .before .before .before .args .h) (c .before .before .before .before .karatsuba .kept .1 .1 .0))
+    (λ c. c .before .before .before .before .karatsuba .kept .1 .1 .1 .0)
     (middle-returns t))
     λ t. outer-lts.spec (outer-calls t) (outer-at t) outer.Post
     (λ c. omega arith)

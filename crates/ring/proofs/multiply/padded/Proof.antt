@@ -1,5 +1,5 @@
 -- `multiply::padded` meets its contract. Assumes nothing.
-use mathlib.Core.Path.{_≡_, ap, _∙_, fun-ext}
+use mathlib.Core.Path.{ap, _∙_, fun-ext}
 use mathlib.Core.List.{List}
 use native.Mathlib.Omega.{arith}
 use borrow.Author.Needs.{needs}
