@@ -1,7 +1,7 @@
 // The dense product: Karatsuba's way of three products of half the length, down to leaves of 49 words, which are
-// multiplied by a comb with windows of 5 bits. The comb's table has the 32 multiples u·b of one factor; for each window,
-// from the highest down, the sum so far is shifted by 5 and the rows that the window picks by the other factor's words
-// are added, seven rows a pass. One table is made for a product and lent to all its leaves.
+// multiplied by a comb with windows of 5 bits. The comb's table has the 32 multiples u·b of one factor; for each
+// window, from the highest down, the sum so far is shifted by 5 and the rows that the window picks by the other
+// factor's words are added, seven rows a pass. One table is made for a product and lent to all its leaves.
 ghost use mathlib.Core.Path.{_≡_};
 ghost use Prim.Native.Nat.{ℕ, _+_, _-_, _*_, _/_, _%_, _^_, _≤_, _<_};
 ghost use lib.ListN.{length, getD, take, drop, replicate};

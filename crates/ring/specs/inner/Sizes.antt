@@ -36,8 +36,8 @@ rowsBits = 3 * wordBits
 abbrev pub mostStarts : ℕ
 mostStarts = 8 * ((mostT + 7) / 8)
 
--- The dense product: the words of a leaf, of the longest factor and of its product before it is reduced. A row of the comb's table has
--- one word more than a leaf, after 6 words of 0 and before at least 6; where row 1 has the leaf itself.
+-- The dense product: the words of a leaf, of the longest factor and of its product before it is reduced. A row of the
+-- comb's table has one word more than a leaf, after 6 words of 0 and before at least 6; where row 1 has the leaf itself.
 abbrev pub leafWords : ℕ
 leafWords = 49
 

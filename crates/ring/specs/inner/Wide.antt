@@ -26,7 +26,8 @@ Away at n i = (i < at) ⊎ (at + n ≤ i)
 abbrev pub Outside : ℕ → ℕ → List ℕ → List ℕ → Type 0
 Outside at n x y = (i : ℕ) → Away at n i → getD y i 0 ≡ getD x i 0
 
--- The comb's table for leaves of n words, whatever leaf it is of: row 0 is 0, and so is each row but for n + 1 words after its first 6.
+-- The comb's table for leaves of n words, whatever leaf it is of: row 0 is 0, and so is each row but for n + 1 words
+-- after its first 6.
 abbrev pub Clear : ℕ → List ℕ → Type 0
 Clear n t = (length t ≡ tableWords) × ((i : ℕ) → (i < rowWords) ⊎ Away 6 (n + 1) (i % rowWords) → getD t i 0 ≡ 0)
 

@@ -1,4 +1,5 @@
--- `karatsuba`, `outer` and `middle` meet their contracts: each call of `karatsuba` in the other two is one level deeper. Assumes nothing.
+-- `karatsuba`, `outer` and `middle` meet their contracts: the depth falls from `karatsuba` to the two others.
+-- Assumes nothing.
 use mathlib.Core.Path.{_≡_, refl, sym, ap, ap₂, _∙_}
 use mathlib.Core.List.{List, _++_}
 use Prim.Native.Nat.{ℕ, _+_, _-_, _*_, _/_, _^_, _≤_, _<_}

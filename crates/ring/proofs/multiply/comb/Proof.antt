@@ -1,4 +1,4 @@
--- `multiply::comb` meets its contract: the windows from bit w on are done, whatever polynomial b the table is of. Assumes nothing.
+-- `multiply::comb` meets its contract: the windows from bit w on are done, whatever the table is of. Assumes nothing.
 use mathlib.Core.Path.{_≡_, refl, sym, ap, _∙_}
 use mathlib.Core.Bool.{Bool}
 use Prim.Native.Nat.{ℕ, _+_, _-_, _*_, _%_, _≤_, _<_}

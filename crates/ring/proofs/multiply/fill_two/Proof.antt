@@ -1,4 +1,4 @@
--- `multiply::fill_two` meets its contract: i words of both rows are right, and nothing else has changed. Assumes nothing.
+-- `multiply::fill_two` meets its contract: i words of both rows are right, and all else is as it was. Assumes nothing.
 use mathlib.Core.Path.{_≡_, refl, sym, ap, ap₂, _∙_}
 use mathlib.Core.List.{List, [], _∷_}
 use mathlib.Core.Logic.{inl}
