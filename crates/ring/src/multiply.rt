@@ -21,7 +21,7 @@ const LEAF: usize = 49;
 
 const LEAF_WIDE: usize = 2 * LEAF;
 
-const FACTOR: usize = 8 * LEAF;
+pub const FACTOR: usize = 8 * LEAF;
 
 const HALF: usize = 4 * LEAF;
 
@@ -289,7 +289,7 @@ pub fn wide_zeros() -> [u64; WIDE]
 }
 
 // a, with words of 0 up to the longest factor.
-fn padded(a: [u64; WORDS]) -> [u64; FACTOR]
+pub fn padded(a: [u64; WORDS]) -> [u64; FACTOR]
     ensures { λ p. ⌜ bits 64 p ≡ bits 64 a ⌝ }
 {
     let mut p = factor_zeros();

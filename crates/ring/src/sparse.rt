@@ -78,8 +78,8 @@ fn twice(r: usize, x: [u64; WORDS]) -> [u64; WINDOWED]
 }
 
 // Word i of the window of d that starts at bit `from`.
-fn shown(d: &[u64], from: usize, i: usize) -> u64
-    requires { ⌜ (from / 64 + i + 1 < length (now d)) × (length (now d) ≡ windowWords) ⌝ }
+pub fn shown(d: &[u64], from: usize, i: usize) -> u64
+    requires { ⌜ (from / 64 + i + 1 < length (now d)) × (length (now d) ≤ windowWords) ⌝ }
     ensures { λ w. ⌜ ((e : ℕ) → e < 64 → bitAt w e ≡ bits 64 (now (d .entry)) (from + (64 * i + e))) ⌝ }
 {
     let at = from / 64 + i;

@@ -9,7 +9,7 @@ ghost use lib.Seq.{sets};
 ghost use Rattle.hashing.specs.Lists.{tab, bitAt, bits};
 ghost use Rattle.ring.specs.inner.Held.{Held};
 ghost use Rattle.ring.specs.Polynomials.{bit};
-ghost use Rattle.ring.specs.inner.Sizes.{wordBits, wordBytes};
+ghost use Rattle.ring.specs.inner.Sizes.{words, wordBits};
 
 // Bytes for the bits of a polynomial of the largest level, twice.
 pub const TWICE_BITS: usize = 2 * 64 * WORDS;
@@ -38,16 +38,29 @@ fn put(out: &mut [u8], at: usize, v: u64)
     out[at + 7] = ((v >> 56) % 256) as u8;
 }
 
-// The bits of the n lowest bytes of x.
+// The bits of a word.
+fn lay_word(out: &mut [u8], at: usize, w: u64)
+    requires { ⌜ (at + 64 ≤ length (now out)) × (at < 2 ^ 32) ⌝ }
+    ensures { λ _. ⌜ ((k : ℕ) → k < 64 → getD (now (out .exit)) (at + k) 0 ≡ bit (bitAt w k)) ⌝ }
+    ensures { λ _. ⌜ ((k : ℕ) → (k < at) ⊎ (at + 64 ≤ k) → getD (now (out .exit)) k 0 ≡ getD (now (out .entry)) k 0) ⌝ }
+{
+    let mut j = 0;
+    while j < 8 {
+        let b = (w >> (8 * j)) % 256;
+        put(out, at + 8 * j, digits(b));
+        j += 1;
+    }
+}
+
+// The bits of the n lowest words of x.
 pub fn lay(x: &[u64], n: usize, out: &mut [u8])
-    requires { ⌜ (n ≤ 8 * length (now x)) × (8 * n ≤ length (now out)) × (n ≤ wordBytes) ⌝ }
-    ensures { λ _. ⌜ ((k : ℕ) → k < 8 * n → getD (now (out .exit)) k 0 ≡ bit (bits 64 (now (x .entry)) k)) ⌝ }
-    ensures { λ _. ⌜ ((k : ℕ) → 8 * n ≤ k → getD (now (out .exit)) k 0 ≡ getD (now (out .entry)) k 0) ⌝ }
+    requires { ⌜ (n ≤ length (now x)) × (64 * n ≤ length (now out)) × (n ≤ words) ⌝ }
+    ensures { λ _. ⌜ ((k : ℕ) → k < 64 * n → getD (now (out .exit)) k 0 ≡ bit (bits 64 (now (x .entry)) k)) ⌝ }
+    ensures { λ _. ⌜ ((k : ℕ) → 64 * n ≤ k → getD (now (out .exit)) k 0 ≡ getD (now (out .entry)) k 0) ⌝ }
 {
     let mut i = 0;
     while i < n {
-        let b = (x[i / 8] >> (8 * (i % 8))) % 256;
-        put(out, 8 * i, digits(b));
+        lay_word(out, 64 * i, x[i]);
         i += 1;
     }
 }
@@ -74,7 +87,7 @@ pub fn unpacked(r: usize, x: [u64; WORDS]) -> [u8; TWICE_BITS]
     ensures { λ d. ⌜ Held r (bits 64 x) d ⌝ }
 {
     let mut d = blank();
-    lay(&x, (r + 7) / 8, &mut d);
+    lay(&x, r / 64 + 1, &mut d);
     repeat(&mut d, r);
     d
 }

@@ -31,7 +31,7 @@ pub fn rows(r: usize, x: [u64; WORDS], s: &mut [u8])
     requires { ⌜ (64 ≤ r) × (r < wordBits) ⌝ ∗ ⌜ now s ≡ replicate rowsBits 0 ⌝ }
     ensures { λ _. ⌜ ((k : ℕ) → k < 2 * r → getD (now (s .exit)) k 0 ≡ bit (bits 64 x (k % r))) × ((k : ℕ) → 2 * r ≤ k → getD (now (s .exit)) k 0 ≡ 0) ⌝ }
 {
-    lay(&x, (r + 7) / 8, s);
+    lay(&x, r / 64 + 1, s);
     repeat(s, r);
 }
 

@@ -1,6 +1,7 @@
 -- What a squaring rests on: bits taken in at the low end of a word, and places in a circle. Assumes nothing.
-use mathlib.Core.Path.{_≡_, refl, sym, ap, ap₂, _∙_}
+use mathlib.Core.Path.{_≡_, refl, sym, ap, ap₂, _∙_, subst}
 use mathlib.Core.Bool.{Bool, true, false, _||_, or-false}
+use mathlib.Core.List.{List}
 use Prim.Native.Nat.{ℕ, zero, suc, _+_, _-_, _*_, _/_, _%_, _^_, _≤_, _<_}
 use native.Mathlib.Nat.{add-mod-mod, add-mul-mod-self-right, mod-add-mod, add-mul, mul-add, mul-assoc, mul-comm, mul-one, mul-zero, mod-eq-of-lt, one-mul, zero-mul, add-assoc, zero-mod, zero-lt-suc}
 use native.Mathlib.Decide.{ℕ-discrete}
@@ -8,75 +9,49 @@ use native.Mathlib.Numerals.{add-one}
 use native.Mathlib.Omega.{arith}
 use lib.Bits.{bitOr, or-shifted}
 use lib.Dec.{lit<}
+use lib.ListN.{getD}
 use lib.Pow.{pow-add}
-use Rattle.hashing.specs.Lists.{bitAt}
-use Rattle.hashing.proofs.Words.{bit-or, bit-mod, bit-shl, bit-shl-below, bit-above}
-use Rattle.ring.specs.Polynomials.{bit}
+use Rattle.hashing.specs.Lists.{bitAt, bits}
+use Rattle.hashing.proofs.Words.{bit-or, bit-mod, bit-shl, bit-shl-below, bit-above, bits-at}
+use Rattle.ring.specs.inner.Even.{source}
+use Rattle.ring.specs.inner.Held.{Taken}
+use Rattle.ring.specs.Polynomials.{Poly, bit}
 use Rattle.ring.proofs.Powers.{mul-mod-mod}
 
 pub bit-small : (b : Bool) → bit b < 2
 bit-small true = lit< tt
 bit-small false = lit< tt
 
--- bit i of the word came in i turns ago; now f e comes in
-taken-in : (f : ℕ → Bool) (w e : ℕ) → e < 64 → ((i : ℕ) → i < e → bitAt w i ≡ f (e - 1 - i))
-    → (i : ℕ) → i < e + 1 → bitAt (bitOr (w * 2 % 2 ^ 64) (bit (f e))) i ≡ f (e + 1 - 1 - i)
+-- bits above e have come in at the low end, the highest first; now bit e comes in, and the sum loses nothing
+pub taken-in : (f : ℕ → Bool) (w e : ℕ) {b : ℕ} → e < 64 → b ≡ bit (f e) → Taken f (e + 1) w → Taken f e (w * 2 % 2 ^ 64 + b)
 unfolding bitAt
-taken-in f w e room before zero below =
-    bit-or (w * 2 % 2 ^ 64) (bit (f e)) 0
-    ∙ ap₂ _||_ (bit-mod (w * 2) 64 0 (lit< tt) ∙ bit-shl-below w 1 0 (lit< tt)) (lowest (f e))
-    ∙ ap f (omega arith)
+taken-in f w e room comes before i below = rw (comes, sum) (bit-or (w * 2 % 2 ^ 64) (bit (f e)) i ∙ go i below)
   where
+    sum : w * 2 % 2 ^ 64 + bit (f e) ≡ bitOr (w * 2 % 2 ^ 64) (bit (f e))
+    sum =
+        let even : w * 2 % 2 ^ 64 ≡ w % 2 ^ 63 * 2 = omega arith in
+        rw even (sym (or-shifted (w % 2 ^ 63) 1 (bit (f e)) (bit-small (f e))))
+
     lowest : (b : Bool) → bitAt (bit b) 0 ≡ b
     lowest true = refl
     lowest false = refl
-taken-in f w e room before (suc i) below =
-    rw (← add-one i)
-    (bit-or (w * 2 % 2 ^ 64) (bit (f e)) (i + 1)
-    ∙ ap₂ _||_ (bit-mod (w * 2) 64 (i + 1) (omega arith) ∙ bit-shl w 1 i ∙ before i (omega arith))
-    (bit-above (bit (f e)) 1 (i + 1) (bit-small (f e)) (omega arith))
-    ∙ or-false (f (e - 1 - i)) ∙ ap f (omega arith))
 
--- the same with two sums in a row, which lose nothing
-pub taken-two : (f : ℕ → Bool) (w t : ℕ) {b c : ℕ} → t + 1 < 64 → ((i : ℕ) → i < t → bitAt w i ≡ f (t - 1 - i))
-    → b ≡ bit (f t) → c ≡ bit (f (t + 1))
-    → (i : ℕ) → i < t + 2 → bitAt ((w * 2 % 2 ^ 64 + b) * 2 % 2 ^ 64 + c) i ≡ f (t + 2 - 1 - i)
-taken-two f w t room before first second i below =
-    let half : ℕ = bitOr (w * 2 % 2 ^ 64) (bit (f t)) in
-    rw (first, second, sum w (f t), sum half (f (t + 1)))
-    (taken-in f half (t + 1) room (taken-in f w t (omega arith) before) i (omega arith) ∙ ap f (omega arith))
-  where
-    sum : (x : ℕ) (d : Bool) → x * 2 % 2 ^ 64 + bit d ≡ bitOr (x * 2 % 2 ^ 64) (bit d)
-    sum x d =
-        let even : x * 2 % 2 ^ 64 ≡ x % 2 ^ 63 * 2 = omega arith in
-        rw even (sym (or-shifted (x % 2 ^ 63) 1 (bit d) (bit-small d)))
+    go : (i : ℕ) → i < 64 - e → bitAt (w * 2 % 2 ^ 64) i || bitAt (bit (f e)) i ≡ f (e + i)
+    go zero below = ap₂ _||_ (bit-mod (w * 2) 64 0 (lit< tt) ∙ bit-shl-below w 1 0 (lit< tt)) (lowest (f e)) ∙ ap f (omega arith)
+    go (suc i) below =
+        rw (← add-one i)
+        (ap₂ _||_ (bit-mod (w * 2) 64 (i + 1) (omega arith) ∙ bit-shl w 1 i ∙ before i (omega arith))
+        (bit-above (bit (f e)) 1 (i + 1) (bit-small (f e)) (omega arith))
+        ∙ or-false (f (e + 1 + i)) ∙ ap f (omega arith))
 
--- places in a circle
-pub circle-on : (r start step e : ℕ) → ((start + step * e) % r + step) % r ≡ (start + step * (e + 1)) % r
-circle-on r start step e =
-    mod-add-mod (start + step * e) r step
-    ∙ ap (λ (p : ℕ). p % r) (rw (mul-add step e 1, mul-one step) (add-assoc start (step * e) step))
+pub taken-same : (f : ℕ → Bool) (w : ℕ) {m n : ℕ} → m ≡ n → Taken f m w → Taken f n w
+taken-same f w same = subst (λ (e : ℕ). Taken f e w) same
 
-pub circle-two : (r start step t : ℕ) → ((start + step * t) % r + (step + step) % r) % r ≡ (start + step * (t + 2)) % r
-circle-two r start step t =
-    let twice : step * 2 ≡ step + step = omega arith in
-    mod-add-mod (start + step * t) r ((step + step) % r) ∙ add-mod-mod (start + step * t) (step + step) r
-    ∙ ap (λ (p : ℕ). p % r) (rw (mul-add step t 2, twice) (add-assoc start (step * t) (step + step)))
-
--- t steps back by n are t steps on by r - n
-pub circle-back : (r n j t : ℕ) → n ≤ r → t ≤ j → ((n * j) % r + (r - n) * t) % r ≡ (n * (j - t)) % r
-circle-back r n j t low few =
-    let split : n * j ≡ n * (j - t) + n * t = ap (λ (p : ℕ). n * p) (omega arith) ∙ mul-add n (j - t) t in
-    let turns : t * r ≡ (r - n) * t + n * t =
-    mul-comm t r ∙ ap (λ (p : ℕ). p * t) (omega arith) ∙ add-mul (r - n) n t in
-    mod-add-mod (n * j) r ((r - n) * t)
-    ∙ ap (λ (p : ℕ). p % r) (omega arith)
-    ∙ add-mul-mod-self-right (n * (j - t)) t r
-
-pub circle-stride : (r n j : ℕ) → ((n * j) % r + (64 * n) % r) % r ≡ (n * (j + 64)) % r
-circle-stride r n j =
-    mod-add-mod (n * j) r ((64 * n) % r) ∙ add-mod-mod (n * j) (64 * n) r
-    ∙ ap (λ (p : ℕ). p % r) (rw (mul-add n j 64, mul-comm 64 n))
+-- places in a circle: the multiple j of n, and e steps of n further
+pub circle-on : (r n j e : ℕ) → ((n * j) % r + (n * e) % r) % r ≡ (n * (j + e)) % r
+circle-on r n j e =
+    mod-add-mod (n * j) r ((n * e) % r) ∙ add-mod-mod (n * j) (n * e) r
+    ∙ ap (λ (p : ℕ). p % r) (sym (mul-add n j e))
 
 -- inverses of powers of 2, multiplied, are the inverse of their product
 pub halves-times : (r i s h p : ℕ) → (2 ^ i * h) % r ≡ 1 → (2 ^ s * p) % r ≡ 1 → (2 ^ (i + s) * ((h * p) % r)) % r ≡ 1
@@ -118,6 +93,47 @@ half-place r k odd below =
         let one : k % 2 ≡ 1 = omega arith in
         let once : k % 2 * m ≡ m = ap (λ (n : ℕ). n * m) one ∙ one-mul m in
         omega (arith, once)
+
+-- a word of a square, from what it has at its even and its odd places
+pub word-is : (x : Poly) (middle i w : ℕ) → ((k : ℕ) → k < 32 → (bitAt w (k + k) ≡ x (32 * i + k)) × (bitAt w (k + k + 1) ≡ x (middle + (32 * i + k))))
+    → (e : ℕ) → e < 64 → bitAt w e ≡ x (source middle (64 * i + e))
+unfolding source
+word-is x middle i w places e below = go (ℕ-discrete (e % 2) 0)
+  where
+    go : Dec (e % 2 ≡ 0) → bitAt w e ≡ x (source middle (64 * i + e))
+    go (yes even) =
+        let same : e ≡ e / 2 + e / 2 = omega arith in
+        let none : (64 * i + e) % 2 ≡ 0 = omega arith in
+        let nothing : (64 * i + e) % 2 * middle ≡ 0 = ap (λ (n : ℕ). n * middle) none ∙ zero-mul middle in
+        let place : 32 * i + e / 2 ≡ (64 * i + e) / 2 + (64 * i + e) % 2 * middle = omega (arith, nothing) in
+        ap (bitAt w) same ∙ places (e / 2) (omega arith) .0 ∙ ap x place
+    go (no odd) =
+        let same : e ≡ e / 2 + e / 2 + 1 = omega arith in
+        let one : (64 * i + e) % 2 ≡ 1 = omega arith in
+        let once : (64 * i + e) % 2 * middle ≡ middle = ap (λ (n : ℕ). n * middle) one ∙ one-mul middle in
+        let place : middle + (32 * i + e / 2) ≡ (64 * i + e) / 2 + (64 * i + e) % 2 * middle = omega (arith, once) in
+        ap (bitAt w) same ∙ places (e / 2) (omega arith) .1 ∙ ap x place
+
+-- the two words that a word x and the window h over the same places give
+pub lower-word : (d : List ℕ) (middle i w h : ℕ) → ((e : ℕ) → e < 64 → bitAt h e ≡ bits 64 d (middle + (64 * i + e)))
+    → ((k : ℕ) → k < 32 → (bitAt w (k + k) ≡ bitAt (getD d i 0) k) × (bitAt w (k + k + 1) ≡ bitAt h k))
+    → (e : ℕ) → e < 64 → bitAt w e ≡ bits 64 d (source middle (64 * (2 * i) + e))
+lower-word d middle i w h shows halves =
+    word-is (bits 64 d) middle (2 * i) w (λ k below.
+    let place : 64 * i + k ≡ 32 * (2 * i) + k = omega arith in (
+      halves k below .0 ∙ sym (bits-at 64 d i k refl (omega arith)) ∙ ap (bits 64 d) place,
+      halves k below .1 ∙ shows k (omega arith) ∙ ap (λ (j : ℕ). bits 64 d (middle + j)) place,
+    ))
+
+pub upper-word : (d : List ℕ) (middle i w h : ℕ) → ((e : ℕ) → e < 64 → bitAt h e ≡ bits 64 d (middle + (64 * i + e)))
+    → ((k : ℕ) → k < 32 → (bitAt w (k + k) ≡ bitAt (getD d i 0) (k + 32)) × (bitAt w (k + k + 1) ≡ bitAt h (k + 32)))
+    → (e : ℕ) → e < 64 → bitAt w e ≡ bits 64 d (source middle (64 * (2 * i + 1) + e))
+upper-word d middle i w h shows halves =
+    word-is (bits 64 d) middle (2 * i + 1) w (λ k below.
+    let place : 64 * i + (k + 32) ≡ 32 * (2 * i + 1) + k = omega arith in (
+      halves k below .0 ∙ sym (bits-at 64 d i (k + 32) refl (omega arith)) ∙ ap (bits 64 d) place,
+      halves k below .1 ∙ shows (k + 32) (omega arith) ∙ ap (λ (j : ℕ). bits 64 d (middle + j)) place,
+    ))
 
 -- a factor of 1 is not 0
 pub unit-pos : (r m n : ℕ) → (m * n) % r ≡ 1 → 0 < n

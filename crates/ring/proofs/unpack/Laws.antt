@@ -2,19 +2,19 @@
 use mathlib.Core.Path.{_≡_, refl, sym, ap, ap₂, _∙_}
 use mathlib.Core.Bool.{Bool, true, false, true≢false}
 use mathlib.Core.List.{List, [], _∷_, _++_}
-use mathlib.Core.Logic.{_⊎_, inl}
+use mathlib.Core.Logic.{_⊎_, inl, inr, ⊎-elim}
 use Prim.Native.Nat.{ℕ, zero, suc, _+_, _-_, _*_, _/_, _%_, _^_, _≤_, _<_}
-use native.Mathlib.Nat.{not-suc-le-zero, mod-eq-of-lt, mod-eq-sub-mod}
+use native.Mathlib.Nat.{add-comm, not-suc-le-zero, mod-eq-of-lt, mod-eq-sub-mod}
 use native.Mathlib.Decide.{ℕ-discrete, decLt}
 use native.Mathlib.Omega.{arith}
 use lib.Bits.{bitAnd, bitOr}
 use lib.Dec.{eqb}
 use lib.ListN.{length, getD, set, take, drop, length-append, List·getD-append}
-use lib.Seq.{sets, sets-eq, length-take-le, getD-take, getD-set-other, getD-append-add}
+use lib.Seq.{sets, sets-eq, length-take-le, getD-set-other, getD-append-add}
 use borrow.Author.Tests.{eqb-true}
-use Rattle.hashing.specs.Lists.{tab, bitAt, bits}
+use Rattle.hashing.specs.Lists.{tab, bitAt}
 use Rattle.hashing.proofs.Lists.{length-tab, getD-tab}
-use Rattle.hashing.proofs.Words.{bit-mod, bit-shr, bits-at}
+use Rattle.hashing.proofs.Words.{bit-mod, bit-shr}
 use Rattle.ring.specs.inner.Held.{Held}
 use Rattle.ring.specs.Polynomials.{Poly, both, bit}
 
@@ -46,41 +46,29 @@ digits-apart b m hb hm =
     right : ℕ → ℕ → Bool
     right c j = eqb (apart c / 2 ^ (8 * j) % 256) (bit (bitAt c j))
 
--- byte i of a list of words
-pub byte-bits : (xs : List ℕ) (i m : ℕ) → m < 8 → bitAt (getD xs (i / 8) 0 / 2 ^ (8 * (i % 8)) % 256) m ≡ bits 64 xs (8 * i + m)
-byte-bits xs i m h =
-    bit-mod (getD xs (i / 8) 0 / 2 ^ (8 * (i % 8))) 8 m h ∙ bit-shr (getD xs (i / 8) 0) (8 * (i % 8)) m
-    ∙ sym (bits-at 64 xs (i / 8) (m + 8 * (i % 8)) (omega arith) (omega arith))
+-- byte j of a word
+pub byte-bits : (w j m : ℕ) → m < 8 → bitAt (w / 2 ^ (8 * j) % 256) m ≡ bitAt w (8 * j + m)
+byte-bits w j m h = bit-mod (w / 2 ^ (8 * j)) 8 m h ∙ bit-shr w (8 * j) m ∙ ap (bitAt w) (add-comm m (8 * j))
 
--- eight bytes more
-pub laid-more : (P : ℕ → ℕ) (out : List ℕ) (i : ℕ) (f : ℕ → ℕ) → 8 * i + 8 ≤ length out
-    → ((k : ℕ) → k < 8 * i → getD out k 0 ≡ P k) → ((m : ℕ) → m < 8 → f m ≡ P (8 * i + m))
-    → (k : ℕ) → k < 8 * (i + 1) → getD (sets out (8 * i) (tab 8 f)) k 0 ≡ P k
-laid-more P out i f room before eight k below =
-    ap (λ (l : List ℕ). getD l k 0) (sets-eq (tab 8 f) out (8 * i) (rw (length-tab 8 f) room)) ∙ go (decLt k (8 * i))
+-- elements that are set one after another, and those around them
+pub sets-in : (f : ℕ → ℕ) (l : List ℕ) (i n m : ℕ) → i + n ≤ length l → m < n → getD (sets l i (tab n f)) (i + m) 0 ≡ f m
+sets-in f l i n m room below =
+    ap (λ (l : List ℕ). getD l (i + m) 0) (sets-eq (tab n f) l i (rw (length-tab n f) room))
+    ∙ ap (λ (k : ℕ). getD (take i l ++ tab n f ++ drop (i + length (tab n f)) l) (k + m) 0) (sym front)
+    ∙ List·getD-append (take i l ++ tab n f) (drop (i + length (tab n f)) l) 0 (length (take i l) + m) (omega (arith, front, both-parts))
+    ∙ getD-append-add (take i l) (tab n f) m 0 ∙ getD-tab n f 0 m below
   where
-    front : length (take (8 * i) out) ≡ 8 * i
-    front = length-take-le (8 * i) out (omega arith)
+    front : length (take i l) ≡ i
+    front = length-take-le i l (omega arith)
 
-    both-parts : length (take (8 * i) out ++ tab 8 f) ≡ 8 * i + 8
-    both-parts = length-append (take (8 * i) out) (tab 8 f) ∙ ap₂ _+_ front (length-tab 8 f)
+    both-parts : length (take i l ++ tab n f) ≡ i + n
+    both-parts = length-append (take i l) (tab n f) ∙ ap₂ _+_ front (length-tab n f)
 
-    go : Dec (k < 8 * i) → getD (take (8 * i) out ++ tab 8 f ++ drop (8 * i + length (tab 8 f)) out) k 0 ≡ P k
-    go (yes low) =
-        List·getD-append (take (8 * i) out ++ tab 8 f) (drop (8 * i + length (tab 8 f)) out) 0 k (omega (arith, both-parts))
-        ∙ List·getD-append (take (8 * i) out) (tab 8 f) 0 k (omega (arith, front)) ∙ getD-take (8 * i) out k 0 low ∙ before k low
-    go (no high) =
-        let place : length (take (8 * i) out) + (k - 8 * i) ≡ k = omega (arith, front) in
-        let back : 8 * i + (k - 8 * i) ≡ k = omega arith in
-        List·getD-append (take (8 * i) out ++ tab 8 f) (drop (8 * i + length (tab 8 f)) out) 0 k (omega (arith, both-parts))
-        ∙ ap (λ (j : ℕ). getD (take (8 * i) out ++ tab 8 f) j 0) (sym place)
-        ∙ getD-append-add (take (8 * i) out) (tab 8 f) (k - 8 * i) 0 ∙ getD-tab 8 f 0 (k - 8 * i) (omega arith)
-        ∙ eight (k - 8 * i) (omega arith) ∙ ap P back
-
--- and nothing behind them
-pub sets-past : (vs l : List ℕ) (i j : ℕ) → i + length vs ≤ j → getD (sets l i vs) j 0 ≡ getD l j 0
-sets-past [] l i j h = refl
-sets-past (v ∷ vs) l i j h = sets-past vs (set l i v) (suc i) j (omega arith) ∙ getD-set-other l i j v 0 (λ e. omega arith)
+pub sets-around : (vs l : List ℕ) (i j : ℕ) → (j < i) ⊎ (i + length vs ≤ j) → getD (sets l i vs) j 0 ≡ getD l j 0
+sets-around [] l i j h = refl
+sets-around (v ∷ vs) l i j h =
+    sets-around vs (set l i v) (suc i) j (⊎-elim (λ before. inl (omega arith)) (λ past. inr (omega arith)) h)
+    ∙ getD-set-other l i j v 0 (λ e. ⊎-elim (λ before. omega arith) (λ past. omega arith) h)
 
 -- what is laid out (one) is held once it is repeated (two)
 pub twice : (r : ℕ) (a : Poly) (one two : List ℕ) → ((k : ℕ) → k < r → getD one k 0 ≡ bit (a k))

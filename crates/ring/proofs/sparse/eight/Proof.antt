@@ -1,6 +1,7 @@
 -- `eight`: one call for each window.
 use mathlib.Core.Bool.{Bool}
 use Prim.Native.Nat.{ℕ, _+_, _*_, _<_}
+use native.Mathlib.Nat.{le-of-eq}
 use borrow.Author.Needs.{needs}
 use lib.Dec.{lit<}
 use lib.ListN.{getD}
@@ -27,19 +28,19 @@ eight-spec =
     tie.close
     (tie.spec
     (λ c. search needs)
-    (λ c κs. let start = c .before .pre in (start .0 0 (lit< tt), start .1))
+    (λ c κs. let start = c .before .pre in (start .0 0 (lit< tt), le-of-eq (start .1)))
     (λ c. search needs)
-    (λ c κs. let start = c .before .before .pre in (start .0 1 (lit< tt), start .1))
+    (λ c κs. let start = c .before .before .pre in (start .0 1 (lit< tt), le-of-eq (start .1)))
     (λ c. search needs)
-    (λ c κs. let start = c .before .before .before .pre in (start .0 2 (lit< tt), start .1))
+    (λ c κs. let start = c .before .before .before .pre in (start .0 2 (lit< tt), le-of-eq (start .1)))
     (λ c. search needs)
-    (λ c κs. let start = c .before .before .before .before .pre in (start .0 3 (lit< tt), start .1))
+    (λ c κs. let start = c .before .before .before .before .pre in (start .0 3 (lit< tt), le-of-eq (start .1)))
     (λ c. search needs)
-    (λ c κs. let start = c .before .before .before .before .before .pre in (start .0 4 (lit< tt), start .1))
+    (λ c κs. let start = c .before .before .before .before .before .pre in (start .0 4 (lit< tt), le-of-eq (start .1)))
     (λ c. search needs)
-    (λ c κs. let start = c .before .before .before .before .before .before .pre in (start .0 5 (lit< tt), start .1))
+    (λ c κs. let start = c .before .before .before .before .before .before .pre in (start .0 5 (lit< tt), le-of-eq (start .1)))
     (λ c. search needs)
-    (λ c κs. let start = c .before .before .before .before .before .before .before .pre in (start .0 6 (lit< tt), start .1))
+    (λ c κs. let start = c .before .before .before .before .before .before .before .pre in (start .0 6 (lit< tt), le-of-eq (start .1)))
     (λ c. search needs)
-    (λ c κs. let start = c .before .before .before .before .before .before .before .before .pre in (start .0 7 (lit< tt), start .1))
+    (λ c κs. let start = c .before .before .before .before .before .before .before .before .pre in (start .0 7 (lit< tt), le-of-eq (start .1)))
     returns)

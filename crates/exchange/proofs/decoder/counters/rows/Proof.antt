@@ -38,7 +38,7 @@ returns c =
       (λ k h.
           twice r (bits 64 (start .args .t2)) (laid .last .1 .1 .0) (copied .last .0) (λ k below. laid .ensures .0 k (omega arith)) (copied .ensures .0) (copied .ensures .1) k (omega arith)),
       λ k h.
-          let past : 8 * ((r + 7) / 8) ≤ k = omega (arith, start .pre .0) in
+          let past : 64 * (r / 64 + 1) ≤ k = omega (arith, start .pre .0) in
           copied .ensures .1 k (inr h) ∙ laid .ensures .1 k past ∙ ap (λ (l : List ℕ). getD l k 0) (start .pre .1) ∙ zero-at rowsBits k,
     )
 
