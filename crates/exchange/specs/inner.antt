@@ -1,2 +1,3 @@
+pub mod ByteRows
 pub mod Counting
 pub mod Working

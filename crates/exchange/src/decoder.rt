@@ -3,6 +3,7 @@ mod counters;
 mod halves;
 mod private_key;
 mod rounds;
+mod rows;
 
 pub use crate::decoder::private_key::Key;
 pub use crate::decoder::private_key::is_good;
