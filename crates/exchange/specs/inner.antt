@@ -1,3 +1,4 @@
 pub mod ByteRows
 pub mod Counting
+pub mod Planes
 pub mod Working

@@ -1,6 +1,7 @@
 // The Black-Gray-Flip decoder: how a private key is read, the counters, the rounds.
 mod counters;
 mod halves;
+mod planes;
 mod private_key;
 mod rounds;
 mod rows;
