@@ -1,5 +1,4 @@
 // The Black-Gray-Flip decoder: how a private key is read, the counters, the rounds.
-mod counters;
 mod halves;
 mod planes;
 mod private_key;

@@ -1,5 +1,5 @@
 -- Laws of the decoder's definitions, and of what the code makes of them. Assumes nothing.
-use mathlib.Core.Path.{_≡_, refl, ap, ap₂, _∙_, fun-ext}
+use mathlib.Core.Path.{_≡_, refl, sym, ap, ap₂, _∙_, fun-ext}
 use mathlib.Core.Bool.{Bool, true, false, not, _&&_, and-false}
 use mathlib.Core.List.{List}
 use Prim.Native.Nat.{ℕ, zero, suc, _+_, _-_, _*_, _/_, _≤_, _<_}
@@ -9,18 +9,20 @@ use native.Mathlib.Numerals.{add-one}
 use native.Mathlib.Omega.{arith}
 use borrow.Author.Tests.{le-ltb, lt-leb}
 use lib.Dec.{leb, ltb}
-use lib.ListN.{length, getD, take}
+use lib.ListN.{length, take}
+use Rattle.hashing.specs.Lists.{bits}
 use Rattle.ring.specs.inner.Sizes.{mostD, words}
 use Rattle.ring.specs.Levels.{Level, levelOf}
-use Rattle.ring.specs.Polynomials.{Poly, InRing, flip, add, weight, support}
+use Rattle.ring.specs.Polynomials.{Poly, InRing, flip, over, add, mul, weight, support}
 use Rattle.ring.proofs.Bools.{both-true}
-use Rattle.ring.proofs.Levels.{facts, sizes}
-use Rattle.ring.proofs.Parity.{flip-false}
+use Rattle.ring.proofs.Levels.{facts, r-pos, sizes}
+use Rattle.ring.proofs.Parity.{flip-false, parity-false}
 use Rattle.ring.proofs.Ring
 use Rattle.exchange.specs.decoder.Decoder.{Decoder, Pair, counter, threshold, nothing, residual, passing, reaching, among, without, flipped, boundOf, black, gray, round, maskedStep, step, after, bgf, failed, found}
 use Rattle.exchange.specs.decoder.PrivateKey.{positions0, positions1, secret, risingFrom, goodKey}
-use Rattle.exchange.specs.inner.Working.{keyOf, Good, Counted}
+use Rattle.exchange.specs.inner.Working.{keyOf, pairOf, Good, Carried}
 use Rattle.exchange.specs.declared.decoder.private_key
+use Rattle.exchange.specs.declared.decoder.rounds
 use Rattle.ring.proofs.Weights.{weight-both}
 
 pub pair-path : {e f : Pair} → e .half0 ≡ f .half0 → e .half1 ≡ f .half1 → e ≡ f
@@ -149,6 +151,27 @@ pub residual-in : (r : ℕ) → 0 < r → (h : Pair) {s : Poly} (e : Pair) → I
 unfolding residual
 residual-in r pos h e hs = Ring.add-in r hs (Ring.add-in r (Ring.mul-in r pos _ _) (Ring.mul-in r pos _ _))
 
+-- the residual of no error is the syndrome
+mul-nothing : (r : ℕ) (a : Poly) → mul r (λ k. false) a ≡ (λ k. false)
+unfolding mul over
+mul-nothing r a = fun-ext (λ k. parity-false r)
+
+residual-nothing : (r : ℕ) (h : Pair) (s : Poly) → residual r h s nothing ≡ s
+unfolding residual nothing
+residual-nothing r h s =
+    ap (add s) (ap₂ add (mul-nothing r (h .half0)) (mul-nothing r (h .half1)) ∙ add-none (λ k. false)) ∙ add-none s
+
+pub carried-first : (l : Level) (h : Pair) (st : rounds.State.State) → pairOf (st .e) ≡ nothing → Carried l h (bits 64 (st .x)) st
+unfolding nothing
+carried-first l h st none =
+    (sym (ap (residual (l .r) h (bits 64 (st .x))) none ∙ residual-nothing (l .r) h (bits 64 (st .x))), inside-by (l .r) none ((λ k past. refl), λ k past. refl))
+
+-- so the residual that is carried along is of the ring
+pub carried-in : (level : ℕ) (h : Pair) (s : Poly) (st : rounds.State.State) → InRing (levelOf level .r) s → Carried (levelOf level) h s st
+    → InRing (levelOf level .r) (bits 64 (st .x))
+carried-in level h s st inside carried =
+    rw (carried .0) (residual-in (levelOf level .r) (r-pos level) h (pairOf (st .e)) inside)
+
 pub after-more : (round : ℕ → Pair → Pair) (n : ℕ) → after round (n + 1) ≡ round n (after round n)
 unfolding after
 after-more round n = ap (after round) (add-one n)
@@ -181,20 +204,20 @@ weight-le (suc n) a = go (a n) (weight-le n a)
     go true h = omega arith
     go false h = omega arith
 
--- the bytes of the counters are compared with a bound
-pub marked : (r : ℕ) (h res : Poly) (count : List ℕ) (bound : ℕ) → Counted r h res count
-    → _≡_ {A = Poly} (λ j. ltb j r && leb bound (getD count j 0)) (λ j. ltb j r && leb bound (counter r h res j))
-marked r h res count bound counted = fun-ext (λ j. go j (decLt j r))
+-- numbers that agree below r, compared with a bound
+pub marked : (r : ℕ) (count other : ℕ → ℕ) (bound : ℕ) → ((j : ℕ) → j < r → count j ≡ other j)
+    → _≡_ {A = Poly} (λ j. ltb j r && leb bound (count j)) (λ j. ltb j r && leb bound (other j))
+marked r count other bound same = fun-ext (λ j. go j (decLt j r))
   where
-    go : (j : ℕ) → Dec (j < r) → ltb j r && leb bound (getD count j 0) ≡ ltb j r && leb bound (counter r h res j)
-    go j (yes below) = rw (counted .1 j below)
+    go : (j : ℕ) → Dec (j < r) → ltb j r && leb bound (count j) ≡ ltb j r && leb bound (other j)
+    go j (yes below) = rw (same j below)
     go j (no past) = let end : r ≤ j = omega arith in rw (le-ltb j r end)
 
-pub reached : (r : ℕ) (h : Pair) (res : Poly) (c0 c1 : List ℕ) (bound : ℕ) {m : Pair} → Counted r (h .half0) res c0 × Counted r (h .half1) res c1
-    → (m .half0 ≡ (λ j. ltb j r && leb bound (getD c0 j 0))) × (m .half1 ≡ (λ j. ltb j r && leb bound (getD c1 j 0))) → m ≡ reaching r h res bound
+-- both halves of what reaches a bound
+pub reached : (r : ℕ) (h : Pair) (res : Poly) (bound : ℕ) {m : Pair} → m .half0 ≡ (λ j. ltb j r && leb bound (counter r (h .half0) res j))
+    → m .half1 ≡ (λ j. ltb j r && leb bound (counter r (h .half1) res j)) → m ≡ reaching r h res bound
 unfolding reaching passing
-reached r h res c0 c1 bound counted is =
-    pair-path (is .0 ∙ marked r (h .half0) res c0 bound (counted .0)) (is .1 ∙ marked r (h .half1) res c1 bound (counted .1))
+reached r h res bound first second = pair-path first second
 
 -- a, flipped where b has it too
 flip-common : (a b : Bool) → flip a (b && a) ≡ a && not b

@@ -10,14 +10,20 @@ use borrow.Author.Tests.{eq-eqb, ne-eqb, le-leb, lt-ltb, leb-true, ltb-true}
 use lib.Dec.{eqb, leb, ltb}
 use lib.ListN.{length, getD, take}
 use lib.Seq.{getD-take, length-take-le}
+use Rattle.hashing.specs.Lists.{bits}
 use Rattle.ring.specs.Polynomials.{Poly, both, bit, add, mul, power, terms, weight, listed, support}
 use Rattle.ring.proofs.Ring.{mul-comm}
+use Rattle.exchange.specs.inner.ByteRows.{rowAt, ByteRows}
 use Rattle.exchange.specs.inner.Counting.{total}
 use Rattle.exchange.specs.decoder.Decoder.{counter}
 use Rattle.exchange.specs.decoder.PrivateKey.{risingFrom}
+use Rattle.exchange.specs.inner.Working.{Rising}
+use Rattle.ring.specs.inner.Sizes.{mostD, wordBits}
+use Rattle.ring.specs.Levels.{levelOf}
+use Rattle.ring.proofs.Levels.{sizes}
 use Rattle.ring.proofs.Bools.{both-true}
 use Rattle.ring.proofs.Weights.{weight-ext, weight-more, weight-none}
-use Rattle.exchange.proofs.decoder.counters.Laws.{total-ext}
+use Rattle.exchange.proofs.decoder.Totals.{total-ext}
 
 -- the first of them, and the rest
 rising-head : (r least p : ℕ) (rest : List ℕ) → risingFrom r least (p ∷ rest) ≡ true → (least ≤ p) × (p < r) × (risingFrom r (suc p) rest ≡ true)
@@ -129,31 +135,38 @@ weight-list r least (p ∷ rest) f e =
     ∙ ap (_+_ (bit (f p))) (weight-list r (suc p) rest f (head .2))
     ∙ sym (total-cons (length rest) (λ i. bit (f (getD (p ∷ rest) i 0))))
 
--- a counter is what the rows of the residual add up to
-pub counted : (r d : ℕ) (positions s : List ℕ) (x : Poly) → d ≤ length positions → risingFrom r 0 (take d positions) ≡ true
-    → ((k : ℕ) → k < 2 * r → getD s k 0 ≡ bit (x (k % r)))
-    → (j : ℕ) → j < r → total d (λ i. getD s (getD positions i 0 + j) 0) ≡ counter r (support (take d positions)) x j
+-- a counter is how many of the rows of the residual are set
+pub counted : (r d : ℕ) (positions f : List ℕ) (x : Poly) → d ≤ length positions → risingFrom r 0 (take d positions) ≡ true → ByteRows r x f
+    → (j : ℕ) → j < r → total d (λ i. bit (bits 8 f (8 * rowAt (getD positions i 0) + j))) ≡ counter r (support (take d positions)) x j
 unfolding counter support
-counted r d positions s x room good rows j below =
-    total-ext d (λ i. getD s (getD positions i 0 + j) 0) (λ i. bit (x ((j + getD (take d positions) i 0) % r))) each
+counted r d positions f x room good rows j below =
+    total-ext d (λ i. bit (bits 8 f (8 * rowAt (getD positions i 0) + j))) (λ i. bit (x ((j + getD (take d positions) i 0) % r))) each
     ∙ ap (λ (n : ℕ). total n (λ i. bit (x ((j + getD (take d positions) i 0) % r)))) (sym size)
     ∙ sym (weight-list r 0 (take d positions) (λ p. x ((j + p) % r)) good)
   where
     size : length (take d positions) ≡ d
     size = length-take-le d positions room
 
-    each : (i : ℕ) → i < d → getD s (getD positions i 0 + j) 0 ≡ bit (x ((j + getD (take d positions) i 0) % r))
+    each : (i : ℕ) → i < d → bit (bits 8 f (8 * rowAt (getD positions i 0) + j)) ≡ bit (x ((j + getD (take d positions) i 0) % r))
     each i h =
         let at : getD (take d positions) i 0 ≡ getD positions i 0 = getD-take d positions i 0 h in
         let low : getD (take d positions) i 0 < r = rising-below r 0 (take d positions) good i (omega (arith, size)) in
-        rows (getD positions i 0 + j) (omega arith)
-        ∙ ap (λ (k : ℕ). bit (x (k % r))) (add-comm (getD positions i 0) j ∙ ap (_+_ j) (sym at))
+        let start : getD positions i 0 ≤ r = omega arith in
+        ap bit (rows .1 (getD positions i 0) j start below ∙ ap (λ (k : ℕ). x (k % r)) (add-comm (getD positions i 0) j ∙ ap (_+_ j) (sym at)))
 
 -- each of the first d positions lies below r
 pub position-below : (r d : ℕ) (positions : List ℕ) → d ≤ length positions → risingFrom r 0 (take d positions) ≡ true
     → (i : ℕ) → i < d → getD positions i 0 < r
 position-below r d positions room good i h =
     rw (← getD-take d positions i 0 h) (rising-below r 0 (take d positions) good i (omega (arith, length-take-le d positions room)))
+
+-- what a function on the positions of a half asks of them
+pub ready : (level r d : ℕ) (h : List ℕ) → r ≡ levelOf level .r → d ≡ levelOf level .d → Rising (levelOf level) h
+    → ((64 ≤ r) × (r < wordBits) × (d ≤ length h) × (d ≤ mostD)) × ((i : ℕ) → i < d → getD h i 0 < r)
+ready level r d h at-r at-d rising =
+    let size = sizes level in
+    let long = rising .0 in
+    ((omega arith, omega arith, omega arith, omega arith), position-below r d h (omega arith) (rw (at-r, at-d) (rising .1)))
 
 -- the product by what they list
 pub product : (r least : ℕ) (ps : List ℕ) (x : Poly) → risingFrom r least ps ≡ true → mul r (terms r ps) x ≡ mul r x (support ps)

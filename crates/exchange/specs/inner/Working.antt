@@ -1,16 +1,18 @@
--- How the decoder's code holds a key, an error and the counters of a round. No public promise cites this file. Assumes nothing.
+-- How the decoder's code holds a key, an error and what a round leaves. No public promise cites this file. Assumes
+-- nothing.
 use mathlib.Core.Path.{_≡_}
 use mathlib.Core.Bool.{Bool, true, false}
 use mathlib.Core.List.{List}
-use Prim.Native.Nat.{ℕ, _<_}
-use lib.ListN.{length, getD, take}
+use Prim.Native.Nat.{ℕ}
+use lib.ListN.{length, take}
 use Rattle.hashing.specs.Lists.{bits}
-use Rattle.ring.specs.inner.Sizes.{mostD, wordBits}
+use Rattle.ring.specs.inner.Sizes.{mostD}
 use Rattle.ring.specs.Levels.{Level}
 use Rattle.ring.specs.Polynomials.{Poly, InRing, support}
 use Rattle.exchange.specs.declared.decoder.halves
 use Rattle.exchange.specs.declared.decoder.private_key
-use Rattle.exchange.specs.decoder.Decoder.{nothing, counter, Pair}
+use Rattle.exchange.specs.declared.decoder.rounds
+use Rattle.exchange.specs.decoder.Decoder.{nothing, residual, Pair}
 use Rattle.exchange.specs.decoder.PrivateKey.{risingFrom}
 
 -- the first d positions of each half
@@ -31,9 +33,9 @@ pairOf e = record { half0 = bits 64 (e .e0); half1 = bits 64 (e .e1) }
 abbrev pub Inside : Level → halves.WordPair.WordPair → Type 0
 Inside l e = InRing (l .r) (bits 64 (e .e0)) × InRing (l .r) (bits 64 (e .e1))
 
--- byte j is the counter of bit j
-abbrev pub Counted : ℕ → Poly → Poly → List ℕ → Type 0
-Counted r h res count = (length count ≡ wordBits) × ((j : ℕ) → j < r → getD count j 0 ≡ counter r h res j)
+-- an error of the ring, and its residual carried along
+abbrev pub Carried : Level → Pair → Poly → rounds.State.State → Type 0
+Carried l h s st = (bits 64 (st .x) ≡ residual (l .r) h s (pairOf (st .e))) × Inside l (st .e)
 
 -- what is kept of an error: nothing after a failure
 abbrev pub kept : Bool → Pair → Pair

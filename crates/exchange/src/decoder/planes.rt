@@ -257,13 +257,3 @@ pub fn reaching(r: usize, p: &[u64], bound: u8) -> [u64; WORDS]
 {
     cut(r, compared(p, masks(bound), r / 64 + 1))
 }
-
-// The bits below r that are set in at least as many rows of the positions as the bound says.
-pub fn marks(r: usize, positions: &[u16], d: usize, f: &[u8], bound: u8) -> [u64; WORDS]
-    requires { ⌜ (r < wordBits) × (d ≤ length (now positions)) × (d ≤ mostD) ⌝ ∗ ⌜ ((i : ℕ) → i < d → getD (now positions) i 0 < r) ⌝
-        ∗ ⌜ (length (now f) ≡ rowsBytes) × ((k : ℕ) → k < 8 * (blocks * blockBytes) → bits 8 (now f) (8 * emptyRow + k) ≡ false) ⌝ }
-    ensures { λ x. ⌜ bits 64 x ≡ (λ j. ltb j r && leb bound (total d (λ i. bit (bits 8 (now (f .entry)) (8 * rowAt (getD (now (positions .entry)) i 0) + j))))) ⌝ }
-{
-    let p = counters(r, positions, d, f);
-    reaching(r, &p, bound)
-}

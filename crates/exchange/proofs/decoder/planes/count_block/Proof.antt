@@ -8,7 +8,7 @@ use Rattle.hashing.specs.Lists.{bits}
 use Rattle.ring.specs.Polynomials.{bit}
 use Rattle.exchange.specs.inner.Counting.{total}
 use Rattle.exchange.specs.inner.Planes.{blockWords, column, numberAt, inRow, Kept}
-use Rattle.exchange.proofs.decoder.counters.Laws.{total-add, total-le, bit-le}
+use Rattle.exchange.proofs.decoder.Totals.{total-add, total-le, bit-le}
 use Rattle.exchange.proofs.decoder.planes.Laws.{total-rest}
 use Rattle.exchange.proofs.decoder.planes.count_block.Statement.{statement}
 use Rattle.exchange.proofs.decoder.planes.count_block.Tie as tie

@@ -15,7 +15,7 @@ use Rattle.ring.specs.Polynomials.{bit}
 use Rattle.exchange.specs.inner.ByteRows.{blockBytes, blocks, emptyRow, rowAt}
 use Rattle.exchange.specs.inner.Counting.{total}
 use Rattle.exchange.specs.inner.Planes.{blockWords, planeWords, planesWords, rowStarts, column, numberAt, counterAt, inRow}
-use Rattle.exchange.proofs.decoder.counters.Laws.{total-ext, total-le, bit-le, blank-length}
+use Rattle.exchange.proofs.decoder.Totals.{total-ext, total-le, bit-le, blank-length}
 use Rattle.exchange.proofs.decoder.planes.Laws.{none-counted}
 use Rattle.exchange.proofs.decoder.planes.counters.Statement.{statement}
 use Rattle.exchange.proofs.decoder.planes.counters.Tie as tie

@@ -10,7 +10,7 @@ use Rattle.ring.specs.Polynomials.{bit}
 use Rattle.ring.proofs.words.Laws.{filled}
 use Rattle.exchange.specs.inner.ByteRows.{emptyRow}
 use Rattle.exchange.specs.inner.Planes.{onesAt, inRow}
-use Rattle.exchange.proofs.decoder.counters.Laws.{total-ext}
+use Rattle.exchange.proofs.decoder.Totals.{total-ext}
 use Rattle.exchange.proofs.decoder.planes.eight.Statement.{statement}
 use Rattle.exchange.proofs.decoder.planes.eight.Tie as tie
 
