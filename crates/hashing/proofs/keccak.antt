@@ -1,3 +1,4 @@
+pub mod Inverting
 pub mod Laws
 pub mod Registers
 pub mod Walking

@@ -1,3 +1,4 @@
 pub mod Constants
+pub mod Inverted
 pub mod Parts
 pub mod Running

@@ -1,10 +1,12 @@
 // Keccak-f[1600], FIPS 202 section 3, on 25 lanes: lane (x, y) is element 5y + x.
 ghost use mathlib.Core.Path.{_≡_};
+ghost use mathlib.Core.Bool.{true};
 ghost use Prim.Native.Nat.{_+_, _-_, _*_, _/_, _%_, _^_, _<_};
 ghost use lib.Bits.{bitAnd, bitXor};
 ghost use lib.ListN.{getD};
 ghost use Rattle.hashing.specs.Keccak.{lane, plane, rotate, complement, parityC, effectD, theta, offset, rho, pi, chi, roundConstant, iota, keccakF};
 ghost use Rattle.hashing.specs.Lists.{tab};
+ghost use Rattle.hashing.specs.inner.Inverted.{turned, chosen, exchanged, Lanes};
 ghost use Rattle.hashing.specs.inner.Constants.{Steps, Begins, ConstantOf, Stands, Goes};
 
 // 3.2.5, algorithm 5, one turn of step 3 on the register R as a number, bit i of which is R[i].
@@ -238,38 +240,109 @@ fn moved_row(a: &[u64; 25], d: &[u64; 5], y: usize) -> [u64; 5]
     ]
 }
 
-// χ on one lane of a row.
-fn chosen(b: &[u64; 5], x: usize) -> u64
-    requires { ⌜ x < 5 ⌝ }
-    ensures { λ r. ⌜ r ≡ bitXor (getD (now (b .entry)) x 0) (bitAnd (complement (getD (now (b .entry)) ((x + 1) % 5) 0)) (getD (now (b .entry)) ((x + 2) % 5) 0)) ⌝ }
+// A lane with each bit exchanged. Six lanes are held so during the rounds (`Inverted`): then most rows of χ need one
+// such exchange or none, and not five.
+fn inverse(word: u64) -> u64
+    ensures { λ r. ⌜ r ≡ turned true word ⌝ }
 {
-    b[x] ^ (!b[(x + 1) % 5] & b[(x + 2) % 5])
+    !word
 }
 
-fn row(a: &[u64; 25], d: &[u64; 5], y: usize) -> [u64; 5]
-    requires { ⌜ now d ≡ tab 5 (effectD (now a)) ⌝ ∗ ⌜ y < 5 ⌝ }
-    ensures { λ r. ⌜ r ≡ plane (chi (pi (rho (theta (now (a .entry)))))) y ⌝ }
+// χ on one lane where the second of its three is held inverted.
+fn both(b: u64, c: u64, d: u64) -> u64
+    ensures { λ r. ⌜ r ≡ chosen b (turned true c) d ⌝ }
 {
-    let b = moved_row(a, d, y);
+    b ^ (c & d)
+}
+
+// χ on one lane where the third is held inverted, and so is what it gives.
+fn either(b: u64, c: u64, d: u64) -> u64
+    ensures { λ r. ⌜ r ≡ turned true (chosen b c (turned true d)) ⌝ }
+{
+    b ^ (c | d)
+}
+
+// χ, row by row, on what θ, ρ and π bring there: which lanes are then inverted follows from the six (`arriving`).
+fn row_0(a: &[u64; 25], d: &[u64; 5]) -> [u64; 5]
+    requires { ⌜ now d ≡ tab 5 (effectD (now a)) ⌝ ∗ ⌜ Lanes (now a) ⌝ }
+    ensures { λ r. ⌜ r ≡ plane (exchanged (chi (pi (rho (theta (exchanged (now (a .entry)))))))) 0 ⌝ }
+{
+    let b = moved_row(a, d, 0);
     [
-        chosen(&b, 0),
-        chosen(&b, 1),
-        chosen(&b, 2),
-        chosen(&b, 3),
-        chosen(&b, 4),
+        either(b[0], b[1], b[2]),
+        either(b[1], inverse(b[2]), b[3]),
+        both(b[2], b[3], b[4]),
+        either(b[3], b[4], b[0]),
+        both(b[4], b[0], b[1]),
+    ]
+}
+
+fn row_1(a: &[u64; 25], d: &[u64; 5]) -> [u64; 5]
+    requires { ⌜ now d ≡ tab 5 (effectD (now a)) ⌝ ∗ ⌜ Lanes (now a) ⌝ }
+    ensures { λ r. ⌜ r ≡ plane (exchanged (chi (pi (rho (theta (exchanged (now (a .entry)))))))) 1 ⌝ }
+{
+    let b = moved_row(a, d, 1);
+    [
+        either(b[0], b[1], b[2]),
+        both(b[1], b[2], b[3]),
+        either(b[2], b[3], inverse(b[4])),
+        either(b[3], b[4], b[0]),
+        both(b[4], b[0], b[1]),
+    ]
+}
+
+fn row_2(a: &[u64; 25], d: &[u64; 5]) -> [u64; 5]
+    requires { ⌜ now d ≡ tab 5 (effectD (now a)) ⌝ ∗ ⌜ Lanes (now a) ⌝ }
+    ensures { λ r. ⌜ r ≡ plane (exchanged (chi (pi (rho (theta (exchanged (now (a .entry)))))))) 2 ⌝ }
+{
+    let b = moved_row(a, d, 2);
+    [
+        either(b[0], b[1], b[2]),
+        both(b[1], b[2], b[3]),
+        both(b[2], inverse(b[3]), b[4]),
+        either(inverse(b[3]), b[4], b[0]),
+        both(b[4], b[0], b[1]),
+    ]
+}
+
+fn row_3(a: &[u64; 25], d: &[u64; 5]) -> [u64; 5]
+    requires { ⌜ now d ≡ tab 5 (effectD (now a)) ⌝ ∗ ⌜ Lanes (now a) ⌝ }
+    ensures { λ r. ⌜ r ≡ plane (exchanged (chi (pi (rho (theta (exchanged (now (a .entry)))))))) 3 ⌝ }
+{
+    let b = moved_row(a, d, 3);
+    [
+        both(b[0], b[1], b[2]),
+        either(b[1], b[2], b[3]),
+        either(b[2], inverse(b[3]), b[4]),
+        both(inverse(b[3]), b[4], b[0]),
+        either(b[4], b[0], b[1]),
+    ]
+}
+
+fn row_4(a: &[u64; 25], d: &[u64; 5]) -> [u64; 5]
+    requires { ⌜ now d ≡ tab 5 (effectD (now a)) ⌝ ∗ ⌜ Lanes (now a) ⌝ }
+    ensures { λ r. ⌜ r ≡ plane (exchanged (chi (pi (rho (theta (exchanged (now (a .entry)))))))) 4 ⌝ }
+{
+    let b = moved_row(a, d, 4);
+    [
+        both(b[0], inverse(b[1]), b[2]),
+        either(inverse(b[1]), b[2], b[3]),
+        both(b[2], b[3], b[4]),
+        either(b[3], b[4], b[0]),
+        both(b[4], b[0], b[1]),
     ]
 }
 
 // A round: all lanes are read before any is written. ι changes the first.
 fn round(a: [u64; 25], constant: u64) -> [u64; 25]
-    ensures { λ r. ⌜ r ≡ iota (chi (pi (rho (theta a)))) constant ⌝ }
+    ensures { λ r. ⌜ r ≡ exchanged (iota (chi (pi (rho (theta (exchanged a))))) constant) ⌝ }
 {
     let d = effects(&a);
-    let p = row(&a, &d, 0);
-    let q = row(&a, &d, 1);
-    let r = row(&a, &d, 2);
-    let s = row(&a, &d, 3);
-    let t = row(&a, &d, 4);
+    let p = row_0(&a, &d);
+    let q = row_1(&a, &d);
+    let r = row_2(&a, &d);
+    let s = row_3(&a, &d);
+    let t = row_4(&a, &d);
     [
         p[0] ^ constant,
         p[1],
@@ -299,16 +372,30 @@ fn round(a: [u64; 25], constant: u64) -> [u64; 25]
     ]
 }
 
+// The six lanes inverted, or back as they were.
+fn exchanged(lanes: [u64; 25]) -> [u64; 25]
+    ensures { λ r. ⌜ r ≡ exchanged lanes ⌝ }
+{
+    let mut a = lanes;
+    a[1] = inverse(a[1]);
+    a[2] = inverse(a[2]);
+    a[8] = inverse(a[8]);
+    a[12] = inverse(a[12]);
+    a[17] = inverse(a[17]);
+    a[20] = inverse(a[20]);
+    a
+}
+
 pub fn permute(lanes: [u64; 25]) -> [u64; 25]
     ensures { λ r. ⌜ r ≡ keccakF lanes ⌝ }
 {
     let constants = round_constants();
-    let mut a = lanes;
+    let mut a = exchanged(lanes);
     let mut i = 0;
     while i < 24 {
         let next = round(a, constants[i]);
         a = next;
         i += 1;
     }
-    a
+    exchanged(a)
 }

@@ -67,13 +67,19 @@ lane-state f x y hx hy =
     let ey : (5 * y + x) / 5 ≡ y = omega arith in
     getD-tab 25 (λ i. f (i % 5) (i / 5)) 0 (5 * y + x) (omega arith) ∙ rw (ex, ey)
 
--- θ, ρ and π on one lane, from the effects of θ
+-- θ, ρ and π on one lane
+pub arrives : (A : List ℕ) (x y : ℕ) → x < 5 → y < 5
+    → lane (pi (rho (theta A))) x y ≡ rotate (offset ((x + 3 * y) % 5) x) (bitXor (lane A ((x + 3 * y) % 5) x) (effectD A ((x + 3 * y) % 5)))
+unfolding pi rho theta
+arrives A x y hx hy =
+    let from : (x + 3 * y) % 5 < 5 = mod-lt (x + 3 * y) (lit< tt) in
+    rw (lane-state _ x y hx hy, lane-state _ ((x + 3 * y) % 5) x from hx, lane-state _ ((x + 3 * y) % 5) x from hx)
+
+-- and from the effects of θ
 pub moved-lane : (A D : List ℕ) (x y : ℕ) → D ≡ tab 5 (effectD A) → x < 5 → y < 5
     → rotate (offset ((x + 3 * y) % 5) x) (bitXor (lane A ((x + 3 * y) % 5) x) (getD D ((x + 3 * y) % 5) 0)) ≡ lane (pi (rho (theta A))) x y
-unfolding pi rho theta
 moved-lane A D x y e hx hy =
-    let from : (x + 3 * y) % 5 < 5 = omega arith in
-    rw (e, getD-tab 5 (effectD A) 0 ((x + 3 * y) % 5) from, lane-state _ x y hx hy, lane-state _ ((x + 3 * y) % 5) x from hx, lane-state _ ((x + 3 * y) % 5) x from hx)
+    rw (e, getD-tab 5 (effectD A) 0 ((x + 3 * y) % 5) (mod-lt (x + 3 * y) (lit< tt))) (sym (arrives A x y hx hy))
 
 -- an array of five, written element by element
 pub five : (f : ℕ → ℕ) {a b c d e : ℕ} → a ≡ f 0 → b ≡ f 1 → c ≡ f 2 → d ≡ f 3 → e ≡ f 4 → (a ∷ b ∷ c ∷ d ∷ e ∷ []) ≡ tab 5 f
@@ -86,18 +92,6 @@ pub effect-of : (A C : List ℕ) → C ≡ tab 5 (parityC A)
 unfolding effectD
 effect-of A C e x =
     rw (e, getD-tab 5 (parityC A) 0 ((x + 4) % 5) (mod-lt (x + 4) (lit< tt)), getD-tab 5 (parityC A) 0 ((x + 1) % 5) (mod-lt (x + 1) (lit< tt)))
-
--- χ on one lane, from the plane that it lies in
-pub chosen-lane : (A B : List ℕ) (y : ℕ) → B ≡ plane A y → y < 5
-    → (x : ℕ) → x < 5 → bitXor (getD B x 0) (bitAnd (complement (getD B ((x + 1) % 5) 0)) (getD B ((x + 2) % 5) 0)) ≡ lane (chi A) x y
-unfolding chi plane
-chosen-lane A B y e hy x hx =
-    rw (
-      e,
-      getD-tab 5 (λ k. lane A k y) 0 x hx,
-      getD-tab 5 (λ k. lane A k y) 0 ((x + 1) % 5) (mod-lt (x + 1) (lit< tt)),
-      getD-tab 5 (λ k. lane A k y) 0 ((x + 2) % 5) (mod-lt (x + 2) (lit< tt)),
-    ) (sym (lane-state _ x y hx hy))
 
 -- a state is its five planes; ι changes the first lane
 pub five-planes : (A : List ℕ) (RC : ℕ) {p q r s t : List ℕ} → length A ≡ 25
@@ -116,6 +110,11 @@ five-planes A RC size p q r s t =
 pub length-state : (f : ℕ → ℕ → ℕ) → length (state f) ≡ 25
 unfolding state
 length-state f = length-tab 25 (λ i. f (i % 5) (i / 5))
+
+pub length-rounds : (n : ℕ) (A : List ℕ) → length A ≡ 25 → length (rounds n A) ≡ 25
+unfolding rounds rnd iota chi
+length-rounds zero A size = size
+length-rounds (suc n) A size = simp length-set (length-state _)
 
 pub length-keccakF : (A : List ℕ) → length (keccakF A) ≡ 25
 unfolding keccakF rounds rnd iota chi
