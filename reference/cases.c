@@ -99,6 +99,7 @@ int main(int argc, char **argv)
     if (fixed) {
         committed();
         committed_maps();
+        committed_syndromes();
     } else {
         random_cases(argv[1], count);
     }

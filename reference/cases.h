@@ -7,8 +7,9 @@
 /* Writes a case and the line that answers it. */
 void emit(const struct test_case *c);
 
-/* The fixed set of document 01, and of the map write after it. */
+/* The fixed set of document 01, of the map write after it, and of more that is decoded after both. */
 void committed(void);
 void committed_maps(void);
+void committed_syndromes(void);
 
 #endif
