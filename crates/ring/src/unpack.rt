@@ -53,7 +53,7 @@ fn lay_word(out: &mut [u8], at: usize, w: u64)
 }
 
 // The bits of the n lowest words of x.
-pub fn lay(x: &[u64], n: usize, out: &mut [u8])
+fn lay(x: &[u64], n: usize, out: &mut [u8])
     requires { ⌜ (n ≤ length (now x)) × (64 * n ≤ length (now out)) × (n ≤ words) ⌝ }
     ensures { λ _. ⌜ ((k : ℕ) → k < 64 * n → getD (now (out .exit)) k 0 ≡ bit (bits 64 (now (x .entry)) k)) ⌝ }
     ensures { λ _. ⌜ ((k : ℕ) → 64 * n ≤ k → getD (now (out .exit)) k 0 ≡ getD (now (out .entry)) k 0) ⌝ }
@@ -66,7 +66,7 @@ pub fn lay(x: &[u64], n: usize, out: &mut [u8])
 }
 
 // The first r bytes once more, behind themselves.
-pub fn repeat(out: &mut [u8], r: usize)
+fn repeat(out: &mut [u8], r: usize)
     requires { ⌜ 2 * r ≤ length (now out) ⌝ }
     ensures { λ _. ⌜ ((k : ℕ) → k < r → getD (now (out .exit)) (r + k) 0 ≡ getD (now (out .entry)) k 0) ⌝ }
     ensures { λ _. ⌜ ((k : ℕ) → (k < r) ⊎ (2 * r ≤ k) → getD (now (out .exit)) k 0 ≡ getD (now (out .entry)) k 0) ⌝ }

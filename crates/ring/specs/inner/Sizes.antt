@@ -28,10 +28,6 @@ emptyWindow = 64 * (2 * words)
 abbrev pub windowWords : ℕ
 windowWords = 3 * words + 1
 
--- and three times, for the decoder's rows
-abbrev pub rowsBits : ℕ
-rowsBits = 3 * wordBits
-
 -- the starts of the sparse product's windows, in passes of eight
 abbrev pub mostStarts : ℕ
 mostStarts = 8 * ((mostT + 7) / 8)
