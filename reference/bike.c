@@ -276,6 +276,23 @@ uint32_t ref_decode(uint32_t level, const uint8_t *key, size_t keyn, const uint8
     return enter(level, lent, 4, decode);
 }
 
+uint32_t ref_decode_early(uint32_t level, const uint8_t *key, size_t keyn, const uint8_t *s, size_t sn,
+                          uint8_t *e0, size_t e0n, uint8_t *e1, size_t e1n, uint32_t *rounds)
+{
+    const struct level *v = level_of(level);
+    const struct lent lent[] = {input(PRIVATE_KEY, key, keyn), input(POLYNOMIAL, s, sn),
+                                output(POLYNOMIAL, e0, e0n), output(POLYNOMIAL, e1, e1n)};
+    uint32_t answer = refusal(v, lent, 4);
+    *rounds = 0;
+    if (answer == 0) {
+        struct key secret = key_lent(v, &lent[0]);
+        struct poly e[2], syndrome = poly_lent(v, &lent[1]);
+        answer = bgf_early(v, &secret, &syndrome, e, rounds) ? 0 : 6;
+        write_error(v, e, &lent[2]);
+    }
+    return finish(answer, v, lent, 4);
+}
+
 /* How many of n words a polynomial used, and how many of these it passed over. */
 static void count_words(const struct drawn *drawn, size_t n, uint32_t numbers[2])
 {

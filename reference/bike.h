@@ -5,7 +5,7 @@
  * position is >= r or not rising; 5 no inverse exists; 6 decoding failed; 7 record cut; 8 record of unknown kind;
  * 9 record length not its kind's; 10 the words ran out. The smallest number that applies is given, but 10 before 5;
  * after 1 nothing else is looked at, and a refusal fills all outputs with zero at their actual lengths. The numbers
- * that an entry reports are 0 then. */
+ * that an entry reports are 0 then, but for the rounds with 6. */
 #ifndef REF_BIKE_H
 #define REF_BIKE_H
 
@@ -27,6 +27,9 @@ uint32_t ref_error_of(uint32_t level, const uint8_t *m, size_t mn,
                       uint8_t *e0, size_t e0n, uint8_t *e1, size_t e1n, uint32_t *replaced);
 uint32_t ref_decode(uint32_t level, const uint8_t *key, size_t keyn, const uint8_t *s, size_t sn,
                     uint8_t *e0, size_t e0n, uint8_t *e1, size_t e1n);
+/* The same, with the fewest rounds that leave residual 0; 5 where none does, with answer 6. */
+uint32_t ref_decode_early(uint32_t level, const uint8_t *key, size_t keyn, const uint8_t *s, size_t sn,
+                          uint8_t *e0, size_t e0n, uint8_t *e1, size_t e1n, uint32_t *rounds);
 
 /* The numbers are used words and those of them passed over: of h0, then of h1. */
 uint32_t ref_make_key(uint32_t level, const uint8_t *seed, size_t seedn,

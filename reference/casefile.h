@@ -18,7 +18,7 @@
 enum { BUFFER_MAX = 16384, CASES_MAX = 65536, NUMBERS_MAX = 4 };
 
 enum entry { SHAKE256 = 1, SHA3_384, PRODUCT, INVERSE, ERROR_OF, DECODE, MAKE_KEY, WRAP, OPEN, READ_RECORD,
-             PACK_KEY, UNPACK_KEY, FAIR_POLYNOMIAL, WRITE_MAP, ACCEPT_MAP, ENTRIES };
+             PACK_KEY, UNPACK_KEY, FAIR_POLYNOMIAL, WRITE_MAP, ACCEPT_MAP, DECODE_EARLY, ENTRIES };
 
 struct buffer {
     size_t n;
@@ -36,7 +36,7 @@ struct result {
     uint32_t answer;
     struct buffer out[2]; /* of an acceptance: the map that it keeps */
     /* H: replaced positions; fair polynomial: words used, passed over; key making: those of h0, of h1;
-     * record: level, thing, body length; acceptance: the counter that it keeps */
+     * record: level, thing, body length; acceptance: the counter that it keeps; decoding that stops early: rounds */
     uint32_t numbers[NUMBERS_MAX];
 };
 

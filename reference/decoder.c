@@ -143,3 +143,28 @@ bool bgf(const struct level *v, const struct key *key, const struct poly *s, str
     struct poly residual = residual_of(&q, e);
     return poly_weight(&residual) == 0 || wrong(W_NO_FINAL_CHECK);
 }
+
+/* What is told of so many rounds done. */
+static uint32_t rounds_told(uint32_t done, bool decoded)
+{
+    if (!decoded && wrong(W_EARLY_FAILS_0))
+        return 0;
+    if (!decoded && wrong(W_EARLY_FAILS_6))
+        return 6;
+    return done + wrong(W_EARLY_FROM_1) + (done > 0 && wrong(W_EARLY_MASKED) ? 2 : 0);
+}
+
+bool bgf_early(const struct level *v, const struct key *key, const struct poly *s, struct poly e[2], uint32_t *rounds)
+{
+    const struct task q = {v, key, s};
+    uint32_t done = 0, left = poly_weight(s);
+    e[0] = e[1] = poly_zero();
+    while ((left > wrong(W_EARLY_WEIGHT_1) || (done == 0 && wrong(W_EARLY_LATE_LOOK))) && done < 5) {
+        bgf_round(&q, done == 0, e);
+        struct poly residual = residual_of(&q, e);
+        left = poly_weight(&residual);
+        done++;
+    }
+    *rounds = rounds_told(done, left == 0);
+    return left == 0;
+}

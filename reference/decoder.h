@@ -17,4 +17,7 @@ void count_all(uint32_t r, uint32_t d, const uint32_t h[], const struct poly *re
 /* Five rounds; true exactly if the final residual is 0. The error found is in e either way. */
 bool bgf(const struct level *v, const struct key *key, const struct poly *s, struct poly e[2]);
 
+/* The same, but it ends as soon as the residual is 0; `rounds` is how many were done. */
+bool bgf_early(const struct level *v, const struct key *key, const struct poly *s, struct poly e[2], uint32_t *rounds);
+
 #endif

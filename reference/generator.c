@@ -383,6 +383,13 @@ void case_decode_numbered(struct test_case *c, const struct level *v, enum error
     case_decode(c, v, &key, &syndrome);
 }
 
+void case_early_numbered(struct test_case *c, const struct level *v, enum error_kind kind, uint32_t weight,
+                         uint32_t number)
+{
+    case_decode_numbered(c, v, kind, weight, number);
+    c->entry = DECODE_EARLY;
+}
+
 struct poly random_public_key(struct source *g, const struct level *v)
 {
     struct poly inverse, h0 = random_poly_of_weight(g, v, v->d), h1 = random_poly_of_weight(g, v, v->d);
@@ -461,6 +468,7 @@ void ordinary_case(struct test_case *c, struct source *g, uint32_t entry, const 
     case INVERSE: case_inverse(c, v, &odd); break;
     case ERROR_OF: case_error_of(c, v, seed); break;
     case DECODE: case_decode_numbered(c, v, PLAIN, v->t, source_below(g, UINT32_MAX)); break;
+    case DECODE_EARLY: case_early_numbered(c, v, PLAIN, v->t, source_below(g, UINT32_MAX)); break;
     case MAKE_KEY: case_make_key(c, v, seed); break;
     case FAIR_POLYNOMIAL: fair_case(c, g, v); break;
     case WRAP: case_wrap(c, v, &a, seed); break;
@@ -511,6 +519,7 @@ bool has_pad(const struct test_case *c, unsigned input)
     case WRAP:
     case UNPACK_KEY: return input == 0;
     case DECODE:
+    case DECODE_EARLY:
     case OPEN: return input == 1;
     default: return false;
     }
@@ -526,7 +535,8 @@ void damage_pad(struct test_case *c, unsigned input, uint32_t bits)
 
 bool has_key(const struct test_case *c)
 {
-    return c->entry == DECODE || c->entry == OPEN || c->entry == PACK_KEY || c->entry == UNPACK_KEY;
+    return c->entry == DECODE || c->entry == DECODE_EARLY || c->entry == OPEN || c->entry == PACK_KEY
+           || c->entry == UNPACK_KEY;
 }
 
 void set_position(struct test_case *c, int half, uint32_t index, uint32_t position)

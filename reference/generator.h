@@ -77,6 +77,10 @@ enum error_kind { PLAIN, STRAY_BIT, CLOSE_KEY, OWN_PATTERN, WINDOW_KEY, ERROR_KI
 void case_decode_numbered(struct test_case *c, const struct level *v, enum error_kind kind, uint32_t weight,
                           uint32_t number);
 
+/* The same decoded by the entry that stops early. */
+void case_early_numbered(struct test_case *c, const struct level *v, enum error_kind kind, uint32_t weight,
+                         uint32_t number);
+
 /* A ciphertext for a key: an honest one, or one whose error, message or bytes are not what wrapping gives. With
  * MOVED_E0 and MOVED_E1 one bit of that half of the message's error stands elsewhere. */
 enum opening { HONEST, STRAY, OTHER_ERROR, LIGHT_ERROR, C0_BIT, C1_BIT, NO_SYNDROME, ANY_BYTES, MOVED_E0, MOVED_E1,

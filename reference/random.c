@@ -36,7 +36,7 @@ static void random_record(struct test_case *c, struct source *g)
 }
 
 /* An error near the weight where decoding begins to fail, H's own weight, or one with a pattern. */
-static void random_decode(struct test_case *c, struct source *g, const struct level *v)
+static void random_decode(struct test_case *c, struct source *g, uint32_t entry, const struct level *v)
 {
     enum error_kind kind = (enum error_kind)source_below(g, ERROR_KINDS);
     uint32_t weight = v->t;
@@ -47,6 +47,7 @@ static void random_decode(struct test_case *c, struct source *g, const struct le
     if (kind == OWN_PATTERN)
         weight = v->d / 2 - 2 + source_below(g, 5);
     case_decode_numbered(c, v, kind, weight, source_below(g, UINT32_MAX));
+    c->entry = entry;
 }
 
 static void random_ring(struct test_case *c, struct source *g, uint32_t entry, const struct level *v)
@@ -178,7 +179,8 @@ void random_case_of(struct test_case *c, struct source *g, uint32_t entry)
     case SHA3_384: random_hash(c, g, entry); break;
     case PRODUCT:
     case INVERSE: random_ring(c, g, entry, v); break;
-    case DECODE: random_decode(c, g, v); break;
+    case DECODE:
+    case DECODE_EARLY: random_decode(c, g, entry, v); break;
     case WRAP: random_wrap(c, g, v); break;
     case FAIR_POLYNOMIAL: random_fair(c, g, v); break;
     case OPEN: random_open(c, g, v); break;

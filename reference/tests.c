@@ -317,6 +317,22 @@ static void round_trip(const struct level *v, unsigned number)
     check(memcmp(k, opened, sizeof k) != 0, "a damaged ciphertext gives another key");
 }
 
+/* Stopping early gives what the full decoder gives, near the weight where decoding fails; `rounds` is within five. */
+static void early_is_full(const struct level *v, uint32_t number)
+{
+    static struct test_case c;
+    static struct result full, early;
+    case_decode_numbered(&c, v, PLAIN, v->t + number, number);
+    case_run(&c, &full);
+    c.entry = DECODE_EARLY;
+    case_run(&c, &early);
+    bool same = full.answer == early.answer;
+    for (int half = 0; half < 2; half++)
+        same = same && memcmp(full.out[half].bytes, early.out[half].bytes, full.out[half].n) == 0;
+    check(same, "stopping early gives the full decoder's answer and error");
+    check(early.numbers[0] <= 5 && (early.answer == 0 || early.numbers[0] == 5), "at most 5 rounds, and 5 with 6");
+}
+
 int main(int argc, char **argv)
 {
     if (argc == 2 && strcmp(argv[1], "--help") == 0) {
@@ -336,6 +352,8 @@ int main(int argc, char **argv)
         ring_laws(level_of(level));
         for (unsigned number = 0; number < 5; number++)
             round_trip(level_of(level), number);
+        for (uint32_t number = 0; number < 30; number++)
+            early_is_full(level_of(level), number);
     }
     packed_keys(1, 313, 4);
     packed_keys(3, 451, 6);

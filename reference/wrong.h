@@ -146,7 +146,13 @@
     X(MAP_ZEROED, "map: a refusal zeroes the stored map") \
     X(MAP_HALF_WRITTEN, "map: the stored map is half written before the tag is looked at") \
     X(MAP_COUNTER_MOVES, "map: the counter moves with a refusal") \
-    X(MAP_EXACT, "map: a longer record is refused")
+    X(MAP_EXACT, "map: a longer record is refused") \
+    X(EARLY_FROM_1, "stopping early: rounds counted from 1") \
+    X(EARLY_LATE_LOOK, "stopping early: the residual is looked at only after round 1") \
+    X(EARLY_MASKED, "stopping early: the masked steps counted as rounds") \
+    X(EARLY_FAILS_0, "stopping early: 0 rounds told after 6") \
+    X(EARLY_FAILS_6, "stopping early: 6 rounds told after 6") \
+    X(EARLY_WEIGHT_1, "stopping early: at a residual of weight 1 too")
 
 #define WRONG_NAME(name, text) W_##name,
 enum { W_NONE, WRONG_READINGS(WRONG_NAME) W_COUNT };
