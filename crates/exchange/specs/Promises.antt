@@ -16,6 +16,7 @@ use Rattle.ring.specs.Polynomials.{hasInverse, support}
 use Rattle.exchange.specs.declared.keys.KeyCounts.{KeyCounts}
 use Rattle.exchange.specs.decoder.Decoder.{bgf, failed}
 use Rattle.exchange.specs.decoder.PrivateKey.{secret, goodKey}
+use Rattle.exchange.specs.decoder.Stopping.{fewest}
 use Rattle.exchange.specs.Fair.{mostWords, ranOut, drawnFor}
 use Rattle.exchange.specs.Opening.{opened}
 use Rattle.exchange.specs.Scheme.{hashH, hashK, h0Of, publicOf, privateOf, keyRanOut, keyCounts, errorReplaced, keyDigest, wrapped}
@@ -147,6 +148,15 @@ decode-says level key s room0 room1 =
 
 abbrev pub DecodePromise : ℕ → List ℕ → List ℕ → ℕ → ℕ → ℕ → List ℕ → List ℕ → Type 0
 DecodePromise level key s room0 room1 r e0 e1 = gives r (e0 ∷ e1 ∷ []) ≡ decode-says level key s room0 room1
+
+-- decoding that stops early: answer and error keep the promise above; "refusals 1 to 4 tell 0", and 6 does not
+unfoldable pub rounds-say : ℕ → List ℕ → List ℕ → ℕ → ℕ → List ℕ
+rounds-say level key s room0 room1 =
+    let l = levelOf level in
+    reported (settle (decoding-reasons level key s room0 room1) []) (fewest l (secret l key) (bits 8 s) ∷ [])
+
+abbrev pub RoundsPromise : ℕ → List ℕ → List ℕ → ℕ → ℕ → ℕ → Type 0
+RoundsPromise level key s room0 room1 rounds = rounds ∷ [] ≡ rounds-say level key s room0 room1
 
 -- opening: a private key and a ciphertext, session key
 unfoldable pub opening-reasons : ℕ → List ℕ → List ℕ → ℕ → List Reason

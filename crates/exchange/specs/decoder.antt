@@ -1,2 +1,3 @@
 pub mod Decoder
 pub mod PrivateKey
+pub mod Stopping
