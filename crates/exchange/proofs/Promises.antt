@@ -6,7 +6,7 @@ use Rattle.hashing.proofs.Answers.{one-output, two-outputs, three-outputs, one-
 use Rattle.exchange.specs.declared.keys.KeyCounts.{KeyCounts}
 use Rattle.exchange.specs.declared.record.Reading.{Reading}
 use Rattle.exchange.specs.Doors.{MakeKeyDoorPromise}
-use Rattle.exchange.specs.Promises.{ErrorOfPromise, ErrorCountPromise, MakeKeyPromise, countsOf, KeyCountPromise, FairPromise, FairCountPromise, WrapPromise, DecodePromise, OpenPromise}
+use Rattle.exchange.specs.Promises.{ErrorOfPromise, ErrorCountPromise, MakeKeyPromise, countsOf, KeyCountPromise, FairPromise, FairCountPromise, WrapPromise, DecodePromise, RoundsPromise, OpenPromise}
 use Rattle.exchange.specs.Records.{RecordPromise}
 use Rattle.exchange.proofs.record.Laws.{outcomeOf-one}
 
@@ -54,6 +54,12 @@ pub decode-just-one : (level : ℕ) (key s : List ℕ) (room0 room1 : ℕ) {r r�
     → DecodePromise level key s room0 room1 r e0 e1 → DecodePromise level key s room0 room1 r′ e0′ e1′
     → (r ≡ r′) × (e0 ≡ e0′) × (e1 ≡ e1′)
 decode-just-one level key s room0 room1 = two-outputs
+
+pub decode-early-just-one : (level : ℕ) (key s : List ℕ) (room0 room1 : ℕ) {r r′ rounds rounds′ : ℕ} {e0 e0′ e1 e1′ : List ℕ}
+    → DecodePromise level key s room0 room1 r e0 e1 × RoundsPromise level key s room0 room1 rounds
+    → DecodePromise level key s room0 room1 r′ e0′ e1′ × RoundsPromise level key s room0 room1 rounds′
+    → ((r ≡ r′) × (e0 ≡ e0′) × (e1 ≡ e1′)) × (rounds ≡ rounds′)
+decode-early-just-one level key s room0 room1 one two = (two-outputs (one .0) (two .0), one-number (one .1) (two .1))
 
 pub open-just-one : (level : ℕ) (key c : List ℕ) (roomKey : ℕ) {r r′ : ℕ} {sessionKey sessionKey′ : List ℕ}
     → OpenPromise level key c roomKey r sessionKey → OpenPromise level key c roomKey r′ sessionKey′

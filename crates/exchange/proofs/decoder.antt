@@ -1,3 +1,4 @@
 pub mod Laws
 pub mod Listing
 pub mod Totals
+pub mod Stopping

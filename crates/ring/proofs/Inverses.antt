@@ -73,6 +73,44 @@ first-found (suc n) f e = go (someBelow n f) (first-found n f) e
     go true before e = (omega (arith, before refl .0), before refl .1)
     go false before e = (le-refl (suc n), e)
 
+-- where a search through the numbers below n stops: at the first that holds, or at n
+pub record Stops (n : ℕ) (f : ℕ → Bool) (i : ℕ) : Type 0 where
+  pub within : i ≤ n
+  pub before : (j : ℕ) → j < i → f j ≡ false
+  pub holds : i < n → f i ≡ true
+
+pub first-stops : (n : ℕ) (f : ℕ → Bool) → Stops n f (firstBelow (suc n) f)
+unfolding firstBelow someBelow
+first-stops zero f =
+    record { within = le-refl 0; before = λ j below. absurd (not-suc-le-zero below); holds = λ below. absurd (not-suc-le-zero below) }
+first-stops (suc n) f = go (someBelow (suc n) f) refl (first-stops n f)
+  where
+    other : (b : Bool) → (b ≡ true → ⊥) → b ≡ false
+    other true never = absurd (never refl)
+    other false never = refl
+
+    go : (b : Bool) → someBelow (suc n) f ≡ b → Stops n f (firstBelow (suc n) f)
+        → Stops (suc n) f (elim b [ true ↦ firstBelow (suc n) f | false ↦ suc n ])
+    go true some stops =
+        record { within = omega (arith, stops .within); before = stops .before; holds = λ _. first-found (suc n) f some .1 }
+    go false none stops =
+        record {
+          within = le-refl (suc n);
+          before = λ j below. other (f j) (λ e. true≢false (sym (some-of (suc n) f j below e) ∙ none));
+          holds = λ below. absurd (omega arith);
+        }
+
+pub stops-once : {n : ℕ} {f : ℕ → Bool} {i j : ℕ} → Stops n f i → Stops n f j → i ≡ j
+stops-once {n} {f} {i} {j} one two = go (decLt i j) (decLt j i)
+  where
+    not-both : {b : Bool} → b ≡ true → b ≡ false → ⊥
+    not-both holds fails = true≢false (sym holds ∙ fails)
+
+    go : Dec (i < j) → Dec (j < i) → i ≡ j
+    go (yes below) _ = absurd (not-both (one .holds (omega (arith, two .within))) (two .before i below))
+    go (no _) (yes below) = absurd (not-both (two .holds (omega (arith, one .within))) (one .before j below))
+    go (no here) (no there) = omega arith
+
 -- the power that is the inverse where there is one
 abbrev pub candidate : ℕ → Poly → Poly
 candidate r a = pow r a (2 ^ (r - 1) - 2)

@@ -26,7 +26,7 @@ pub record Bounds (l : Level) (s : ℕ) : Type 0 where
   pub sum : l .slope * s + l .offset < 2 ^ 40
   pub divides : 0 < l .divisor
   pub quotient : (l .slope * s + l .offset) / l .divisor < 256
-  pub least : 3 ≤ l .least
+  pub least : 3 < l .least
   pub most : l .least < 256
 
 -- a position has its room in the binary digits of r, and these theirs in two bytes
@@ -48,7 +48,7 @@ tests l =
     let sum = l .slope * l .r + l .offset in
     eqb (l .r % 2) 1 ∷ eqb (2 ^ (l .r - 1) % l .r) 1
     ∷ ltb mostT (l .r) ∷ ltb (l .r) wordBits ∷ leb (l .d) mostD ∷ ltb 0 (l .t) ∷ leb (l .t) mostT
-    ∷ ltb sum (2 ^ 40) ∷ ltb 0 (l .divisor) ∷ ltb (sum / l .divisor) 256 ∷ leb 3 (l .least) ∷ ltb (l .least) 256
+    ∷ ltb sum (2 ^ 40) ∷ ltb 0 (l .divisor) ∷ ltb (sum / l .divisor) 256 ∷ ltb 3 (l .least) ∷ ltb (l .least) 256
     ∷ leb (l .r) (2 ^ positionBits (l .r)) ∷ leb (positionBits (l .r)) 16 ∷ []
 
 every : List Bool → Bool
@@ -82,7 +82,7 @@ fits-facts l e =
         sum = ltb-true _ _ (at 7);
         divides = ltb-true _ _ (at 8);
         quotient = ltb-true _ _ (at 9);
-        least = leb-true _ _ (at 10);
+        least = ltb-true _ _ (at 10);
         most = ltb-true _ _ (at 11);
       };
       width = record { holds = leb-true _ _ (at 12); most = leb-true _ _ (at 13) };

@@ -29,6 +29,19 @@ unfolding weight
 weight-none zero = refl
 weight-none (suc n) = rw (weight-none n)
 
+pub weight-clear : (n : ℕ) (a : Poly) → weight n a ≡ 0 → (k : ℕ) → k < n → a k ≡ false
+unfolding weight
+weight-clear zero a none k below = absurd (not-suc-le-zero below)
+weight-clear (suc n) a none k below = go (ℕ-discrete k n) (weight-clear n a (omega (arith, none)) k)
+  where
+    clear : (b : Bool) → bit b ≡ 0 → b ≡ false
+    clear true e = absurd (omega arith)
+    clear false e = refl
+
+    go : Dec (k ≡ n) → (k < n → a k ≡ false) → a k ≡ false
+    go (yes last) before = rw last (clear (a n) (omega (arith, none)))
+    go (no other) before = before (omega arith)
+
 -- the exponents that two polynomials share are no more than those of one
 pub weight-both : (n : ℕ) (a b : Poly) → weight n (λ k. both (a k) (b k)) ≤ weight n a
 unfolding weight

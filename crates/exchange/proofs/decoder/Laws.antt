@@ -67,18 +67,21 @@ module _ (l : Level) (h : Pair) (s : Poly) where
   step-in (suc i) e he = round-in e he
 
 -- a counter is at most the weight of its half of the key
-counter-le : (r : ℕ) (h res : Poly) (j : ℕ) → counter r h res j ≤ weight r h
+pub counter-le : (r : ℕ) (h res : Poly) (j : ℕ) → counter r h res j ≤ weight r h
 unfolding counter
 counter-le r h res j = weight-both r h _
 
--- a bound above the weight of both halves is reached by no bit
-none-reach : (r : ℕ) (h : Pair) (res : Poly) (bound : ℕ) → weight r (h .half0) < bound → weight r (h .half1) < bound
-    → reaching r h res bound ≡ nothing
+-- all counters of a half are below a bound
+abbrev pub Low : ℕ → Poly → Poly → ℕ → Type 0
+Low r a res bound = (j : ℕ) → counter r a res j < bound
+
+-- so no bit reaches it
+none-reach : (r : ℕ) (h : Pair) (res : Poly) (bound : ℕ) → Low r (h .half0) res bound → Low r (h .half1) res bound → reaching r h res bound ≡ nothing
 unfolding reaching passing nothing
-none-reach r h res bound few0 few1 = pair-path (none (h .half0) few0) (none (h .half1) few1)
+none-reach r h res bound low0 low1 = pair-path (none (h .half0) low0) (none (h .half1) low1)
   where
-    none : (a : Poly) → weight r a < bound → _≡_ {A = Poly} (λ j. ltb j r && leb bound (counter r a res j)) (λ j. false)
-    none a few = fun-ext (λ j. rw (lt-leb bound (counter r a res j) (omega (arith, counter-le r a res j))) (and-false (ltb j r)))
+    none : (a : Poly) → Low r a res bound → _≡_ {A = Poly} (λ j. ltb j r && leb bound (counter r a res j)) (λ j. false)
+    none a low = fun-ext (λ j. rw (lt-leb bound (counter r a res j) (low j)) (and-false (ltb j r)))
 
 pub add-none : (a : Poly) → add a (λ k. false) ≡ a
 unfolding add
@@ -88,15 +91,16 @@ flip-nothing : (e : Pair) → flipped e nothing ≡ e
 unfolding flipped nothing
 flip-nothing e = pair-path (add-none (e .half0)) (add-none (e .half1))
 
--- so where even the bound for gray bits is above both weights no round changes e, round 1 with its two more steps neither
-module _ (l : Level) (h : Pair) (s : Poly) (e : Pair) (few0 : weight (l .r) (h .half0) < boundOf l h s e - 3) (few1 : weight (l .r) (h .half1) < boundOf l h s e - 3) where
+-- where all counters are below even the bound for gray bits no round changes e, round 1 with its two more steps neither
+module _ (l : Level) (h : Pair) (s : Poly) (e : Pair)
+    (low0 : Low (l .r) (h .half0) (residual (l .r) h s e) (boundOf l h s e - 3)) (low1 : Low (l .r) (h .half1) (residual (l .r) h s e) (boundOf l h s e - 3)) where
   no-black : black l h s e ≡ nothing
   unfolding black
-  no-black = none-reach (l .r) h _ _ (omega arith) (omega arith)
+  no-black = none-reach (l .r) h _ _ (λ j. omega (arith, low0 j)) (λ j. omega (arith, low1 j))
 
   no-gray : gray l h s e ≡ nothing
   unfolding gray without nothing
-  no-gray = rw (none-reach (l .r) h (residual (l .r) h s e) (boundOf l h s e - 3) few0 few1)
+  no-gray = rw (none-reach (l .r) h (residual (l .r) h s e) (boundOf l h s e - 3) low0 low1)
 
   round-idles : round l h s e ≡ e
   unfolding round
@@ -231,9 +235,12 @@ unfolding flipped among without add
 without-flipped a b =
     pair-path (fun-ext (λ k. flip-common (a .half0 k) (b .half0 k))) (fun-ext (λ k. flip-common (a .half1 k) (b .half1 k)))
 
-pub threshold-least : (level s : ℕ) → 3 ≤ threshold (levelOf level) s
+pub threshold-above : (l : Level) → 3 < l .least → (s : ℕ) → 3 < threshold l s
 unfolding threshold
-threshold-least level s = le-trans (facts level .bounds .least) (le-max-right _ (levelOf level .least))
+threshold-above l above s = le-trans above (le-max-right _ (l .least))
+
+pub threshold-least : (level s : ℕ) → 3 ≤ threshold (levelOf level) s
+threshold-least level s = omega (arith, threshold-above (levelOf level) (facts level .bounds .least) s)
 
 -- a key that was read from bytes: its polynomials, and what the test of its positions tells
 module _ (l : Level) (key : private_key.Key.Key) (bytes : List ℕ)
