@@ -30,7 +30,7 @@ pub fn numbers(number: u8) -> bool {
 fn inputs(number: u8) -> u8 {
     match number {
         1 | 2 | 4 | 5 | 7 | 10 | 11 | 12 | 13 => 1,
-        3 | 6 | 8 | 9 | 14 | 15 => 2,
+        3 | 6 | 8 | 9 | 14 | 15 | 16 => 2,
         _ => 0,
     }
 }
@@ -38,7 +38,7 @@ fn inputs(number: u8) -> u8 {
 fn outputs(number: u8) -> u8 {
     match number {
         1 | 2 | 3 | 4 | 9 | 11 | 12 | 13 | 14 | 15 => 1,
-        5 | 6 | 7 | 8 => 2,
+        5 | 6 | 7 | 8 | 16 => 2,
         _ => 0,
     }
 }
@@ -93,6 +93,17 @@ fn fair_polynomial(level: u32, bytes: &[u8], out: &mut [u8]) -> Said {
     told(counted.answer, 2, counted.used, counted.passed)
 }
 
+fn decode_early(
+    level: u32,
+    private_key: &[u8],
+    syndrome: &[u8],
+    e0: &mut [u8],
+    e1: &mut [u8],
+) -> Said {
+    let decoded = exchange::decode_early(level, private_key, syndrome, e0, e1);
+    told(decoded.answer, 1, decoded.rounds, 0)
+}
+
 fn accept_map(case: Case, session_key: &[u8], bytes: &[u8], map: &mut [u8]) -> Said {
     let accepted = maps::accept_map(case.level, session_key, case.first, bytes, map, case.second);
     told(accepted.answer, 1, accepted.counter, 0)
@@ -115,7 +126,8 @@ fn called(case: Case, a: &[u8], b: &[u8], out0: &mut [u8], out1: &mut [u8]) -> S
         12 => silent(packing::unpack(level, a, out0)),
         13 => fair_polynomial(level, a, out0),
         14 => silent(maps::write_map(level, a, case.first, case.second, b, out0)),
-        _ => accept_map(case, a, b, out0),
+        15 => accept_map(case, a, b, out0),
+        _ => decode_early(level, a, b, out0, out1),
     }
 }
 

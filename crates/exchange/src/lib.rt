@@ -20,7 +20,7 @@ use keys::KeyCounts;
 pub use record::read_record;
 use ring::words::store;
 ghost use lib.ListN.{length};
-ghost use Rattle.exchange.specs.Promises.{ErrorOfPromise, ErrorCountPromise, MakeKeyPromise, KeyCountPromise, FairPromise, FairCountPromise, WrapPromise, DecodePromise, OpenPromise};
+ghost use Rattle.exchange.specs.Promises.{ErrorOfPromise, ErrorCountPromise, MakeKeyPromise, KeyCountPromise, FairPromise, FairCountPromise, WrapPromise, DecodePromise, RoundsPromise, OpenPromise};
 
 pub struct ErrorAnswer {
     pub answer: u32,
@@ -150,6 +150,39 @@ pub fn decode(level: u32, private_key: &[u8], syndrome: &[u8], e0: &mut [u8], e1
         return 6;
     }
     0
+}
+
+pub struct Decoded {
+    pub answer: u32,
+    pub rounds: u32,
+}
+
+// The same by rounds that stop when the residual is gone, and how many were done: 5 with 6, and 0 with 1 to 4.
+pub fn decode_early(
+    level: u32,
+    private_key: &[u8],
+    syndrome: &[u8],
+    e0: &mut [u8],
+    e1: &mut [u8],
+) -> Decoded
+    ensures { λ r. ⌜ DecodePromise level (now («private_key» .entry)) (now (syndrome .entry)) (length (now (e0 .entry)))
+        (length (now (e1 .entry))) (r .answer) (now (e0 .exit)) (now (e1 .exit)) ⌝ }
+    ensures { λ r. ⌜ RoundsPromise level (now («private_key» .entry)) (now (syndrome .entry)) (length (now (e0 .entry)))
+        (length (now (e1 .entry))) (r .rounds) ⌝ }
+{
+    let answer = judge::decoding(level, private_key, syndrome, e0.len(), e1.len());
+    if answer != 0 {
+        return Decoded {
+            answer: refuse::two(answer, e0, e1),
+            rounds: 0,
+        };
+    }
+    let told = decoding::write_early(level, private_key, syndrome, e0, e1);
+    let rounds = told.rounds;
+    if told.failed {
+        return Decoded { answer: 6, rounds };
+    }
+    Decoded { answer: 0, rounds }
 }
 
 // Opening: the session key of a ciphertext under a private key. A ciphertext that no message fits has the answer 0 too.

@@ -30,7 +30,7 @@ ghost use Rattle.exchange.specs.inner.Counting.{total};
 ghost use Rattle.exchange.specs.inner.Working;
 ghost use Rattle.exchange.specs.inner.Working.{keyOf, Good, pairOf, Inside, Carried};
 
-const ROUNDS: usize = 5;
+pub const ROUNDS: usize = 5;
 
 // What a round leaves: an error and its residual.
 pub struct State {
@@ -133,7 +133,7 @@ fn threshold(level: u32, s: usize) -> u8
 }
 
 // The weight of a residual.
-fn ones(level: u32, x: [u64; WORDS]) -> usize
+pub fn ones(level: u32, x: [u64; WORDS]) -> usize
     requires { ⌜ InRing (levelOf level .r) (bits 64 x) ⌝ }
     ensures { λ n. ⌜ n ≡ Polynomials.weight (levelOf level .r) (bits 64 x) ⌝ }
 {
@@ -176,7 +176,7 @@ fn masked_step(
 }
 
 // Round i + 1: all counters are taken from the residual at its start, and mark the black bits and the gray ones.
-fn step(level: u32, key: Key, s: [u64; WORDS], st: State, i: usize, f: &mut [u8]) -> State
+pub fn step(level: u32, key: Key, s: [u64; WORDS], st: State, i: usize, f: &mut [u8]) -> State
     requires { ⌜ Good (levelOf level) key ⌝ ∗ ⌜ InRing (levelOf level .r) (bits 64 s) × Carried (levelOf level) (keyOf (levelOf level) key) (bits 64 s) st ⌝ ∗ ⌜ Room (now f) ⌝ }
     ensures { λ t. ⌜ Carried (levelOf level) (keyOf (levelOf level) key) (bits 64 s) t
         × (pairOf (t .e) ≡ Decoder.step (levelOf level) (keyOf (levelOf level) key) (bits 64 s) i (pairOf (st .e))) ⌝ ∗ ⌜ Room (now (f .exit)) ⌝ }
@@ -229,7 +229,7 @@ fn under(mask: u64, x: [u64; WORDS], n: usize) -> [u64; WORDS]
 
 // The error of a decoding that left no bit of the residual, and no error after one that left some. No branch tells
 // which.
-fn kept(level: u32, left: usize, e: WordPair) -> WordPair
+pub fn kept(level: u32, left: usize, e: WordPair) -> WordPair
     requires { ⌜ left ≤ 65536 ⌝ ∗ ⌜ Inside (levelOf level) e ⌝ }
     ensures { λ k. ⌜ pairOf k ≡ Working.kept (ltb 0 left) (pairOf e) ⌝ }
 {
