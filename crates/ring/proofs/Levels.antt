@@ -10,8 +10,10 @@ use lib.Dec.{eqb, leb, ltb}
 use lib.ListN.{getD}
 use Rattle.ring.specs.Chain.{halvings, top}
 use Rattle.ring.specs.inner.Sizes.{mostD, mostT, wordBits}
+use Rattle.ring.specs.Invertible.{RunsThrough}
 use Rattle.ring.specs.Levels.{Level, level1, level3, table, rowIn, levelOf, polyBytes, polyWords, padBits, positionBits, ciphertextBytes, privateBytes, masked}
 use Rattle.ring.proofs.Bools.{both-true}
+use Rattle.ring.proofs.Walks.{walk, walk-runs}
 
 -- the sizes of a row, for the code that adds and multiplies them
 pub record Sizes (r d t : ℕ) : Type 0 where
@@ -34,13 +36,15 @@ pub record Width (r : ℕ) : Type 0 where
   pub holds : r ≤ 2 ^ positionBits r
   pub most : positionBits r ≤ 16
 
--- all that proofs use of a row. The inverse rests on `cycle`: the powers of 2 return to 1 after r - 1 steps
+-- all that proofs use of a row. The inverse rests on `cycle`: the powers of 2 return to 1 after r - 1 steps; when there is one, on
+-- `misses`: and not before
 pub record Facts (l : Level) : Type 0 where
   pub odd : l .r % 2 ≡ 1
   pub cycle : 2 ^ (l .r - 1) % l .r ≡ 1
   pub sizes : Sizes (l .r) (l .d) (l .t)
   pub bounds : Bounds l (l .r)
   pub width : Width (l .r)
+  pub misses : walk (l .r) (l .r - 2) 2 ≡ true
 
 -- and the tests that show it
 tests : Level → List Bool
@@ -49,7 +53,7 @@ tests l =
     eqb (l .r % 2) 1 ∷ eqb (2 ^ (l .r - 1) % l .r) 1
     ∷ ltb mostT (l .r) ∷ ltb (l .r) wordBits ∷ leb (l .d) mostD ∷ ltb 0 (l .t) ∷ leb (l .t) mostT
     ∷ ltb sum (2 ^ 40) ∷ ltb 0 (l .divisor) ∷ ltb (sum / l .divisor) 256 ∷ ltb 3 (l .least) ∷ ltb (l .least) 256
-    ∷ leb (l .r) (2 ^ positionBits (l .r)) ∷ leb (positionBits (l .r)) 16 ∷ []
+    ∷ leb (l .r) (2 ^ positionBits (l .r)) ∷ leb (positionBits (l .r)) 16 ∷ walk (l .r) (l .r - 2) 2 ∷ []
 
 every : List Bool → Bool
 every [] = true
@@ -86,11 +90,12 @@ fits-facts l e =
         most = ltb-true _ _ (at 11);
       };
       width = record { holds = leb-true _ _ (at 12); most = leb-true _ _ (at 13) };
+      misses = at 14;
     }
 
 -- the whole table, and with it the row of every number
 table-fits : every (map fits table) ≡ true
-unfolding every fits tests table level1 level3 top halvings
+unfolding every fits tests table level1 level3 top halvings walk
 table-fits = refl
 
 row-fits : (rows : List Level) (level : ℕ) → every (map fits rows) ≡ true → fits level1 ≡ true → fits (rowIn rows level) ≡ true
@@ -122,6 +127,10 @@ r-small level = sizes level .r-most
 
 pub r-cycle : (level : ℕ) → 2 ^ (levelOf level .r - 1) % levelOf level .r ≡ 1
 r-cycle level = facts level .cycle
+
+-- CR 9: the powers of 2 modulo r run through 1 to r - 1
+pub powers-run : (level : ℕ) → RunsThrough (levelOf level .r)
+powers-run level = walk-runs (levelOf level .r) (omega (arith, sizes level .r-least)) (r-odd level) (facts level .misses)
 
 pub width : (level : ℕ) → Width (levelOf level .r)
 width level = facts level .width

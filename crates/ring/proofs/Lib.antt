@@ -8,9 +8,11 @@ pub mod Layouts
 pub mod Levels
 pub mod Packed
 pub mod Parity
+pub mod Pigeonhole
 pub mod Powers
 pub mod Promises
 pub mod Ring
 pub mod Shifts
 pub mod Upper
+pub mod Walks
 pub mod Weights
