@@ -186,17 +186,21 @@ module _ (r : ℕ) (pos : 0 < r) where
         Powers.pow-two-pow r pos a (r - 1) ∙ Powers.spread-mod r pos (2 ^ (r - 1)) 1 a (cycle ∙ sym (mod-eq-of-lt cycle-big))
         ∙ Powers.spread-one r pos ha
 
-    pub candidate-inverts : {a b : Poly} → InRing r a → IsInverse r a b → mul r a (candidate r a) ≡ one r
+    -- a times the candidate keeps a, with an inverse or without
+    pub candidate-back : {a : Poly} → InRing r a → mul r (mul r (candidate r a) a) a ≡ a
     unfolding pow
-    candidate-inverts {a} {b} ha hb =
+    candidate-back {a} ha =
         let n : ℕ = 2 ^ (r - 1) - 2 in
-        let q : Poly = candidate r a in
         let two : 2 ^ 1 ≤ 2 ^ (r - 1) = pow-mono {i = 1} {j = r - 1} (omega (arith, cycle-big)) in
         let whole : suc (suc n) ≡ 2 ^ (r - 1) = omega arith in
-        let back : mul r (mul r q a) a ≡ a = ap (pow r a) whole ∙ pow-cycle ha in
+        ap (pow r a) whole ∙ pow-cycle ha
+
+    pub candidate-inverts : {a b : Poly} → InRing r a → IsInverse r a b → mul r a (candidate r a) ≡ one r
+    candidate-inverts {a} {b} ha hb =
+        let q : Poly = candidate r a in
         Ring.mul-comm r a q ∙ sym (Ring.one-mul r pos (Ring.mul-in r pos q a)) ∙ Ring.mul-comm r (one r) (mul r q a)
         ∙ ap (mul r (mul r q a)) (sym (hb .product)) ∙ sym (Ring.mul-assoc r pos (mul r q a) a b)
-        ∙ ap (λ (p : Poly). mul r p b) back ∙ hb .product
+        ∙ ap (λ (p : Poly). mul r p b) (candidate-back ha) ∙ hb .product
 
     pub test-fails : {a : Poly} → InRing r a → (mul r a (candidate r a) ≡ one r → ⊥) → hasInverse r a ≡ false
     test-fails {a} ha fails = go (hasInverse r a) refl

@@ -3,6 +3,7 @@ pub mod Bools
 pub mod Chains
 pub mod Examples
 pub mod Inverses
+pub mod Invertible
 pub mod Judging
 pub mod Layouts
 pub mod Levels
