@@ -5,6 +5,7 @@ use mathlib.Core.Bool.{Bool, true, false, true≢false}
 use Prim.Native.Nat.{ℕ, zero, suc, _+_, _-_, _*_, _/_, _%_, _^_, _<_}
 use native.Mathlib.Nat.{mod-lt, mod-eq-of-lt, zero-mod}
 use native.Mathlib.Decide.{ℕ-discrete}
+use native.Mathlib.Numerals.{add-one}
 use native.Mathlib.Omega.{arith}
 use borrow.Author.Tests.{eq-eqb, ne-eqb, lt-ltb, le-ltb}
 use Rattle.ring.specs.Invertible.{RunsThrough, allOnes, InverseExactlyIf}
@@ -16,6 +17,7 @@ use Rattle.ring.proofs.Parity.{flip-false, flip-self, both-comm, both-t
 use Rattle.ring.proofs.Powers.{square, spread-at}
 use Rattle.ring.proofs.Ring
 use Rattle.ring.proofs.Walks.{power-doubled, half, half-unit, halved}
+use Rattle.ring.proofs.Weights.{weight-ext}
 
 -- whether the weight is odd, as a sum over two elements
 odd : ℕ → Poly → Bool
@@ -37,6 +39,14 @@ unfolding odd over
 over-same r a c =
     parity-ext r (λ i _. both-comm (a i) c) ∙ parity-both r c a
     ∙ both-comm c (parity r a) ∙ ap (λ (s : Bool). both s c) (parity-ext r (λ i _. sym (both-true (a i))))
+
+weight-all : (r : ℕ) → weight r (allOnes r) ≡ r
+unfolding allOnes weight
+weight-all r = weight-ext r {b = λ k. true} (λ k below. lt-ltb k r below) ∙ weight-every r
+  where
+    weight-every : (n : ℕ) → weight n (λ k. true) ≡ n
+    weight-every zero = refl
+    weight-every (suc n) = rw (weight-every n) (add-one n)
 
 -- 2 n equal terms cancel
 parity-even : (n : ℕ) (c : Bool) → parity (n + n) (λ i. c) ≡ false
@@ -172,3 +182,9 @@ module _ (r : ℕ) (big : 2 < r) (rOdd : r % 2 ≡ 1) (cycle : 2 ^ (r - 1) % r �
 pub has-inverse-exactly-if : (level : ℕ) → InverseExactlyIf (levelOf level .r)
 has-inverse-exactly-if level =
     exactly-if (levelOf level .r) (omega (arith, sizes level .r-least)) (r-odd level) (r-cycle level) (powers-run level)
+
+-- an odd weight below r is enough
+pub light-inverts : (level : ℕ) {a : Poly} → InRing (levelOf level .r) a → weight (levelOf level .r) a % 2 ≡ 1
+    → weight (levelOf level .r) a < levelOf level .r → hasInverse (levelOf level .r) a ≡ true
+light-inverts level {a} ha isOdd light =
+    has-inverse-exactly-if level a ha .1 (isOdd, λ all. let whole = ap (weight (levelOf level .r)) all ∙ weight-all (levelOf level .r) in omega arith)

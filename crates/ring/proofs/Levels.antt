@@ -45,6 +45,7 @@ pub record Facts (l : Level) : Type 0 where
   pub bounds : Bounds l (l .r)
   pub width : Width (l .r)
   pub misses : walk (l .r) (l .r - 2) 2 ≡ true
+  pub d-odd : l .d % 2 ≡ 1
 
 -- and the tests that show it
 tests : Level → List Bool
@@ -53,7 +54,7 @@ tests l =
     eqb (l .r % 2) 1 ∷ eqb (2 ^ (l .r - 1) % l .r) 1
     ∷ ltb mostT (l .r) ∷ ltb (l .r) wordBits ∷ leb (l .d) mostD ∷ ltb 0 (l .t) ∷ leb (l .t) mostT
     ∷ ltb sum (2 ^ 40) ∷ ltb 0 (l .divisor) ∷ ltb (sum / l .divisor) 256 ∷ ltb 3 (l .least) ∷ ltb (l .least) 256
-    ∷ leb (l .r) (2 ^ positionBits (l .r)) ∷ leb (positionBits (l .r)) 16 ∷ walk (l .r) (l .r - 2) 2 ∷ []
+    ∷ leb (l .r) (2 ^ positionBits (l .r)) ∷ leb (positionBits (l .r)) 16 ∷ walk (l .r) (l .r - 2) 2 ∷ eqb (l .d % 2) 1 ∷ []
 
 every : List Bool → Bool
 every [] = true
@@ -91,6 +92,7 @@ fits-facts l e =
       };
       width = record { holds = leb-true _ _ (at 12); most = leb-true _ _ (at 13) };
       misses = at 14;
+      d-odd = eqb-true _ _ (at 15);
     }
 
 -- the whole table, and with it the row of every number
@@ -131,6 +133,9 @@ r-cycle level = facts level .cycle
 -- CR 9: the powers of 2 modulo r run through 1 to r - 1
 pub powers-run : (level : ℕ) → RunsThrough (levelOf level .r)
 powers-run level = walk-runs (levelOf level .r) (omega (arith, sizes level .r-least)) (r-odd level) (facts level .misses)
+
+pub d-odd : (level : ℕ) → levelOf level .d % 2 ≡ 1
+d-odd level = facts level .d-odd
 
 pub width : (level : ℕ) → Width (levelOf level .r)
 width level = facts level .width

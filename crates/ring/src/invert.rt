@@ -1,4 +1,4 @@
-// The inverse of a as a^(2^(r-1) - 2), by a chain of products, and one product more to see whether it is one.
+// The inverse of a as a^(2^(r-1) - 2), by a chain of products, and one product more where it is to be seen whether it is one.
 use crate::frame::is_zero;
 use crate::size::WORDS;
 use crate::square::once;
@@ -95,4 +95,13 @@ pub fn invert(r: usize, a: [u64; WORDS], ones: usize) -> Inverse
         exists: is_one(times(r, value, a, ones)),
         value,
     }
+}
+
+// The inverse of a polynomial that has one: nothing is left to be seen.
+pub fn invert_unit(r: usize, a: [u64; WORDS], ones: usize) -> [u64; WORDS]
+    requires { ⌜ (r % 2 ≡ 1) × (64 ≤ r) × (r < wordBits) × (2 ^ (r - 1) % r ≡ 1) ⌝ ∗ ⌜ InRing r (bits 64 a) ⌝ ∗ ⌜ Ones r (bits 64 a) ones ⌝
+        ∗ ⌜ hasInverse r (bits 64 a) ≡ true ⌝ }
+    ensures { λ x. ⌜ bits 64 x ≡ inverseOf r (bits 64 a) ⌝ }
+{
+    power(r, a, ones)
 }

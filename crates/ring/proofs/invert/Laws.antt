@@ -20,7 +20,7 @@ use Rattle.ring.specs.Chain.{Rung, doubled, longer, climb, digits, top}
 use Rattle.ring.proofs.Parity.{flip-false, flip-self}
 use Rattle.ring.proofs.Ring
 use Rattle.ring.proofs.Chains.{top-one, next-span}
-use Rattle.ring.proofs.Inverses.{candidate, test-passes, test-fails}
+use Rattle.ring.proofs.Inverses.{candidate, inverse-found, candidate-inverts, test-passes, test-fails}
 use Rattle.ring.proofs.Packed.{bit-flip, bits-set-same, bits-set-other}
 
 -- only the highest digit has nothing above it
@@ -98,3 +98,7 @@ module _ (r : ℕ) (pos : 0 < r) (cycle : 2 ^ (r - 1) % r ≡ 1) {a : Poly} (ha 
   decided {x} {m} is product false told =
       let fails = test-fails r pos cycle ha (λ e. told .fails refl (product ∙ ap (mul r a) is ∙ e)) in
       (sym fails, λ e. absurd (true≢false (sym e)))
+
+  -- and need not, where a is known to have an inverse
+  pub unit-inverse : hasInverse r a ≡ true → candidate r a ≡ inverseOf r a
+  unit-inverse has = sym (test-passes r pos a (candidate-inverts r pos cycle ha (inverse-found r pos a has)) .1)
