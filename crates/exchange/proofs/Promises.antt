@@ -1,13 +1,23 @@
--- The promise of each public entry of this crate admits just one outcome: one answer, and one content for each output. Assumes nothing.
-use mathlib.Core.Path.{_≡_, sym, _∙_}
-use mathlib.Core.List.{List}
+-- The promise of each public entry of this crate admits just one outcome: one answer, and one content for each output; and key making
+-- never gives 5. Assumes nothing.
+use mathlib.Core.Path.{_≡_, refl, sym, _∙_}
+use mathlib.Core.Bool.{Bool, true, false, not, _||_}
+use mathlib.Core.List.{List, [], _∷_}
 use Prim.Native.Nat.{ℕ}
+use native.Mathlib.Omega.{arith}
+use lib.ListN.{length}
+use Rattle.hashing.specs.Answers.{Reason, Output, differs, firstOf, settle}
+use Rattle.hashing.specs.Answers.Outcome.{gives}
 use Rattle.hashing.proofs.Answers.{one-output, two-outputs, three-outputs, one-number, two-numbers}
+use Rattle.ring.specs.Levels.{known, levelOf, seedBytes, polyBytes, privateBytes}
+use Rattle.ring.specs.Polynomials.{hasInverse}
 use Rattle.exchange.specs.declared.keys.KeyCounts.{KeyCounts}
 use Rattle.exchange.specs.declared.record.Reading.{Reading}
 use Rattle.exchange.specs.Doors.{MakeKeyDoorPromise}
-use Rattle.exchange.specs.Promises.{ErrorOfPromise, ErrorCountPromise, MakeKeyPromise, countsOf, KeyCountPromise, FairPromise, FairCountPromise, WrapPromise, DecodePromise, RoundsPromise, OpenPromise}
+use Rattle.exchange.specs.Promises.{ErrorOfPromise, ErrorCountPromise, MakeKeyPromise, making-reasons, work-reasons, make-key-says, countsOf, KeyCountPromise, FairPromise, FairCountPromise, WrapPromise, DecodePromise, RoundsPromise, OpenPromise}
 use Rattle.exchange.specs.Records.{RecordPromise}
+use Rattle.exchange.specs.Scheme.{h0Of, keyRanOut}
+use Rattle.exchange.proofs.keys.Laws.{h0-inverts}
 use Rattle.exchange.proofs.record.Laws.{outcomeOf-one}
 
 pub error-of-just-one : (level : ℕ) (m : List ℕ) (room0 room1 : ℕ) {r r′ : ℕ} {e0 e0′ e1 e1′ : List ℕ}
@@ -23,6 +33,35 @@ pub make-key-just-one : (level : ℕ) (seed : List ℕ) (roomPublic roomPrivate 
     → MakeKeyPromise level seed roomPublic roomPrivate r public private → MakeKeyPromise level seed roomPublic roomPrivate r′ public′ private′
     → (r ≡ r′) × (public ≡ public′) × (private ≡ private′)
 make-key-just-one level seed roomPublic roomPrivate = two-outputs
+
+-- the answer is the first reason's number
+answer-is : (reasons : List Reason) (outputs : List Output) {n : ℕ} {contents : List (List ℕ)} → settle reasons outputs ≡ gives n contents
+    → firstOf reasons ≡ n
+unfolding settle
+answer-is reasons outputs says = cc
+
+-- CR 9: the line for 5 never applies, since h0 has an inverse wherever no words ran out
+pub make-key-never-5 : (level : ℕ) (seed : List ℕ) (roomPublic roomPrivate : ℕ) {outputs : List (List ℕ)}
+    → make-key-says level seed roomPublic roomPrivate ≡ gives 5 outputs → ⊥
+unfolding make-key-says making-reasons work-reasons firstOf
+make-key-never-5 level seed roomPublic roomPrivate says =
+    let l = levelOf level in
+    let wrong = differs (length seed) seedBytes || differs roomPublic (polyBytes l) || differs roomPrivate (privateBytes l) in
+    go (not (known level)) wrong (keyRanOut l seed) refl (answer-is _ _ says)
+  where
+    go : (unknown wrong out : Bool) → keyRanOut (levelOf level) seed ≡ out →
+        firstOf
+        (record { applies = unknown; number = 1 }
+        ∷ record { applies = wrong; number = 2 }
+        ∷ record { applies = out; number = 10 }
+        ∷ record { applies = not (hasInverse (levelOf level .r) (h0Of (levelOf level) seed)); number = 5 }
+        ∷ [])
+        ≡ 5 → ⊥
+    go true wrong out _ five = omega arith
+    go false true out _ five = omega arith
+    go false false true _ five = omega arith
+    go false false false enough five =
+        let none : _≡_ {A = ℕ} 0 5 = rw (h0-inverts level seed enough) at five in omega arith
 
 pub key-count-just-one : (level : ℕ) (seed : List ℕ) (roomPublic roomPrivate : ℕ) (n n′ : KeyCounts)
     → KeyCountPromise level seed roomPublic roomPrivate n → KeyCountPromise level seed roomPublic roomPrivate n′

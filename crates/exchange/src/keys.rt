@@ -13,7 +13,7 @@ use ring::size::TAIL;
 use ring::times::times;
 use ring::words;
 ghost use mathlib.Core.Path.{_≡_};
-ghost use mathlib.Core.Bool.{true, false};
+ghost use mathlib.Core.Bool.{false};
 ghost use mathlib.Core.List.{_++_};
 ghost use Prim.Native.Nat.{_+_, _*_, _≤_};
 ghost use lib.ListN.{length, take, replicate};
@@ -22,7 +22,7 @@ ghost use Rattle.hashing.specs.Lists.{bits};
 ghost use Rattle.hashing.specs.Sponge.{shake256};
 ghost use Rattle.ring.specs.Levels.{levelOf, messageBytes, tailBytes};
 ghost use Rattle.ring.specs.Polynomials;
-ghost use Rattle.ring.specs.Polynomials.{InRing, weight, hasInverse};
+ghost use Rattle.ring.specs.Polynomials.{InRing, weight};
 ghost use Rattle.exchange.specs.Promises.{making-reasons, work-reasons, countsOf};
 ghost use Rattle.ring.specs.Bytes.{bytesOf, numbers};
 ghost use Rattle.exchange.specs.Scheme.{keyWords, h0Of, h1Of, publicOf, privateOf, keyRanOut, keyCounts, keyDigest, twoBytes, privateKey};
@@ -199,37 +199,25 @@ fn tail_of(sigma: &[u8], public_key: &[u8]) -> [u8; TAIL]
     tail
 }
 
-// The public key, if h0 has an inverse, and the private key; whether it has.
-fn write(
-    level: u32,
-    seed: &[u8],
-    h: KeyWords,
-    public_key: &mut [u8],
-    private_key: &mut [u8],
-) -> bool
+// Both keys. Where no words ran out, h0 has an inverse.
+fn write(level: u32, seed: &[u8], h: KeyWords, public_key: &mut [u8], private_key: &mut [u8])
     requires { ⌜ firstOf (making-reasons level (now seed) (length (now «public_key»)) (length (now «private_key»))) ≡ 0 ⌝
         ∗ ⌜ keyRanOut (levelOf level) (now seed) ≡ false ⌝
         ∗ ⌜ (bits 64 (h .h0) ≡ h0Of (levelOf level) (now seed)) × (bits 64 (h .h1) ≡ h1Of (levelOf level) (now seed)) ⌝ }
-    ensures { λ exists. ⌜ (exists ≡ hasInverse (levelOf level .r) (h0Of (levelOf level) (now (seed .entry))))
-        × (exists ≡ true → (now («public_key» .exit) ≡ bytesOf (levelOf level .r) (publicOf (levelOf level) (now (seed .entry))))
-        × (now («private_key» .exit) ≡ privateOf (levelOf level) (now (seed .entry)))) ⌝ }
+    ensures { λ _. ⌜ (now («public_key» .exit) ≡ bytesOf (levelOf level .r) (publicOf (levelOf level) (now (seed .entry))))
+        × (now («private_key» .exit) ≡ privateOf (levelOf level) (now (seed .entry))) ⌝ }
 {
     let r = size::block(level);
     let d = size::key_weight(level);
     let h0 = h.h0;
     let h1 = h.h1;
-    let inverse = invert::invert(r, h0, d);
-    if !inverse.exists {
-        return false;
-    }
-    let value = inverse.value;
-    words::store(times(r, value, h1, d), public_key);
+    let inverse = invert::invert_unit(r, h0, d);
+    words::store(times(r, inverse, h1, d), public_key);
     let tail = tail_of(&seed[32..], public_key);
     write_private(level, KeyWords { h0, h1 }, &tail, private_key);
-    true
 }
 
-// The number that shows only in the work, and what was drawn for it.
+// The number that shows only in the work, which is 10 or 0, and what was drawn for it.
 pub struct Made {
     pub number: u32,
     pub counts: KeyCounts,
@@ -250,8 +238,6 @@ pub fn make(level: u32, seed: &[u8], public_key: &mut [u8], private_key: &mut [u
     }
     let h0 = drawn.h0;
     let h1 = drawn.h1;
-    if !write(level, seed, KeyWords { h0, h1 }, public_key, private_key) {
-        return Made { number: 5, counts };
-    }
+    write(level, seed, KeyWords { h0, h1 }, public_key, private_key);
     Made { number: 0, counts }
 }

@@ -11,9 +11,11 @@ use lib.Seq.{length-take-le, take-suc, drop-cons, set-at}
 use borrow.Author.Tests.{ltb-false}
 use Rattle.hashing.specs.Sponge.{sha3-384}
 use Rattle.hashing.proofs.sponge.Squeezing.{sha3-384-length}
-use Rattle.ring.specs.Levels.{Level, messageBytes}
-use Rattle.ring.specs.Polynomials.{Poly, InRing, weight, listed, support}
+use Rattle.ring.specs.Levels.{Level, levelOf, messageBytes}
+use Rattle.ring.specs.Polynomials.{Poly, InRing, weight, listed, support, hasInverse}
 use Rattle.ring.proofs.Bools.{both-false}
+use Rattle.ring.proofs.Invertible.{light-inverts}
+use Rattle.ring.proofs.Levels.{sizes, d-odd}
 use Rattle.exchange.specs.Fair.{ranOut, drawnFor}
 use Rattle.exchange.specs.Scheme.{h0Drawn, h1Drawn, h0Of, h1Of, keyRanOut, keyDigest, twoBytes}
 use Rattle.exchange.proofs.Making.{length-twoBytes}
@@ -56,6 +58,14 @@ module _ (l : Level) (seed : List ℕ) (enough : keyRanOut l seed ≡ false) whe
   pub h1-half : Half (l .r) (l .d) (h1Of l seed)
   unfolding keyRanOut h1Of h1Drawn
   h1-half = drawn-half l _ (both-false (ranOut (l .d) (h0Drawn l seed)) _ enough .1)
+
+-- and h0 has an inverse: d is odd and below r
+pub h0-inverts : (level : ℕ) (seed : List ℕ) → keyRanOut (levelOf level) seed ≡ false
+    → hasInverse (levelOf level .r) (h0Of (levelOf level) seed) ≡ true
+h0-inverts level seed enough =
+    let half = h0-half (levelOf level) seed enough in
+    let small = sizes level in
+    light-inverts level (half .inside) (ap (λ (w : ℕ). w % 2) (half .weighs) ∙ d-odd level) (omega (arith, half .weighs))
 
 pub keyDigest-length : (public : List ℕ) → length (keyDigest public) ≡ messageBytes
 unfolding keyDigest

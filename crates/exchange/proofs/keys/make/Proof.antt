@@ -1,14 +1,14 @@
--- `make` refuses with 10 where words ran out and with 5 where h0 has no inverse; else it writes the keys.
+-- `make` refuses with 10 where words ran out; else h0 has an inverse, and it writes the keys.
 use mathlib.Core.Path.{_≡_, sym, _∙_}
 use mathlib.Core.Bool.{false}
 use native.Mathlib.Omega.{arith}
 use borrow.Author.Needs.{needs}
-use borrow.Author.Tests.{not-true, not-false}
 use Rattle.hashing.specs.Answers.{firstOf}
 use Rattle.ring.specs.Levels.{levelOf}
 use Rattle.exchange.specs.Promises.{work-reasons}
 use Rattle.exchange.specs.Scheme.{keyRanOut}
 use Rattle.exchange.proofs.Judged.{making-clear}
+use Rattle.exchange.proofs.keys.Laws.{h0-inverts}
 use Rattle.exchange.proofs.keys.make.Statement.{statement}
 use Rattle.exchange.proofs.keys.make.Tie as tie
 
@@ -34,18 +34,10 @@ write-requires c κs =
 returns-2 : tie.Need-returns-2
 unfolding work-reasons firstOf
 returns-2 c =
-    let wrote = c .before .before .before .before .before in
+    let wrote = c .before .before .before .before in
     let tested = wrote .before .before .before .before .before in
-    let missing = sym (wrote .write .ensures .0) ∙ not-true (wrote .write .result) (c .if2 .taken) in
-    (rw (enough tested, missing), λ zero. absurd (omega arith), tested .before .before .both-halves .ensures .3)
-
-returns-3 : tie.Need-returns-3
-unfolding work-reasons firstOf
-returns-3 c =
-    let wrote = c .before .before .before .before .before in
-    let tested = wrote .before .before .before .before .before in
-    let there = not-false (wrote .write .result) (c .if2 .left) in
-    (rw (enough tested, ← wrote .write .ensures .0, there), λ zero. wrote .write .ensures .1 there, tested .before .before .both-halves .ensures .3)
+    let there = h0-inverts _ _ (enough tested) in
+    (rw (enough tested, there), λ zero. wrote .write .ensures, tested .before .before .both-halves .ensures .3)
 
 pub make-spec : {M : Type 1} → statement M
 make-spec =
@@ -56,7 +48,4 @@ make-spec =
     write-requires
     (λ c. search needs)
     (λ c. search needs)
-    returns-2
-    (λ c. search needs)
-    (λ c. search needs)
-    returns-3)
+    returns-2)
