@@ -97,10 +97,14 @@ static void committed_ring(struct source *g, const struct level *v)
     struct poly a = random_poly(g, v), b = random_poly(g, v), sparse = random_poly_of_weight(g, v, v->d);
     struct poly ones = all_ones(v), top = power_of_X(v->r - 1), zero = poly_zero();
     struct poly odd = random_poly_of_weight(g, v, v->r / 2 | 1), even = random_poly_of_weight(g, v, v->d + 1);
+    struct poly nearly = ones; /* all ones but two: odd too, and it has an inverse */
+    poly_flip(&nearly, 0);
+    poly_flip(&nearly, v->r / 2);
     emit_product(v, &a, &b);
     emit_inverse(v, &odd);
     emit_inverse(v, &even);
     emit_inverse(v, &ones);
+    emit_inverse(v, &nearly);
     if (!in_full(v))
         return;
     emit_product(v, &top, &a);
