@@ -6,7 +6,7 @@
  *
  * Answers. A call gives one number. After BIKE_DONE every output holds its value. Any other number is a refusal, and then every
  * byte of every output is zero, at the length that was lent, right or wrong: no earlier content is left. The smallest number that
- * applies is given, but BIKE_NO_WORDS before BIKE_NO_INVERSE; after BIKE_NO_LEVEL nothing else is looked at.
+ * applies is given; after BIKE_NO_LEVEL nothing else is looked at.
  *
  * Older keys. A private key ends with a digest of its public key. Keys made before it had one are 32 bytes shorter and
  * are refused with BIKE_BAD_LENGTH: make a new pair. A ciphertext of that time opens to a key that nobody else has.
@@ -52,11 +52,11 @@ enum {
     BIKE_BAD_LENGTH = 2,   /* a buffer, input or output, has a wrong length */
     BIKE_BAD_PAD = 3,      /* the public key or the ciphertext has one of the 5 upper bits of byte 1540 (3082) set */
     BIKE_BAD_POSITION = 4, /* a position in the private key is too large, or not larger than the one before it */
-    BIKE_NO_INVERSE = 5,   /* the seed gives no key pair: take another seed */
+    BIKE_NO_INVERSE = 5,   /* a polynomial has no inverse: no function of this header gives it, which is proved */
     BIKE_NO_WORDS = 10     /* the seed's words ran out before the key had its positions: take another seed */
 };
 
-/* Makes the key pair that the seed determines. Gives 0, 1, 2, 10 or 5, looked for in this order. The report has four
+/* Makes the key pair that the seed determines. Gives 0, 1, 2 or 10. The report has four
  * numbers: how many words were drawn for h0 and how many of these were passed over, then both for h1. It had 8 bytes
  * once, and before that there was none: callers that were compiled with an older header must be compiled anew. */
 uint32_t bike_make_key(uint32_t level, const uint8_t *seed, size_t seed_bytes,
