@@ -3,14 +3,14 @@
 pub mod bytes;
 pub mod decoder;
 mod decoding;
-mod digest;
+pub mod digest;
 pub mod doors;
-mod error;
+pub mod error;
 mod fair;
 mod judge;
 pub mod keys;
 mod masks;
-mod opening;
+pub mod opening;
 pub mod record;
 mod sampler;
 mod wrapping;

@@ -95,7 +95,7 @@ fn write_session_key(
 }
 
 // The syndrome of a ciphertext: c0·h0.
-fn syndrome(level: u32, key: Key, c0: [u64; WORDS]) -> [u64; WORDS]
+pub fn syndrome(level: u32, key: Key, c0: [u64; WORDS]) -> [u64; WORDS]
     requires { ⌜ Good (levelOf level) key ⌝ ∗ ⌜ InRing (levelOf level .r) (bits 64 c0) ⌝ }
     ensures { λ s. ⌜ bits 64 s ≡ mul (levelOf level .r) (bits 64 c0) (keyOf (levelOf level) key .half0) ⌝ }
 {

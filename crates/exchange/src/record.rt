@@ -61,7 +61,7 @@ fn body_bytes(level: u32, thing: u32) -> usize
     lengths[(thing - 1) as usize]
 }
 
-fn known_kind(kind: u32) -> bool
+pub fn known_kind(kind: u32) -> bool
     ensures { λ r. ⌜ r ≡ knownKind kind ⌝ }
 {
     if !level::known(kind / 256) {
