@@ -1,8 +1,9 @@
 -- The chain computes a^(2^(r-1) - 2): each rung holds a^(2^k - 1), and k is what the digits read so far make. Assumes nothing.
 use mathlib.Core.Path.{_≡_, refl, sym, ap, _∙_}
 use mathlib.Core.Bool.{Bool, true, false}
+use mathlib.Core.List.{List, [], _∷_}
 use Prim.Native.Nat.{ℕ, zero, suc, _+_, _-_, _/_, _^_, _≤_, _<_}
-use native.Mathlib.Nat.{le-refl, add-zero, div-one}
+use native.Mathlib.Nat.{le-refl, add-zero, zero-add, add-assoc, div-one}
 use native.Mathlib.Numerals.{one-add, add-one}
 use native.Mathlib.Omega.{arith}
 use lib.Pow.{shr-shr}
@@ -10,7 +11,7 @@ use lib.Dec.{ltb}
 use borrow.Author.Tests.{ltb-true, ltb-false}
 use Rattle.hashing.specs.Lists.{bitAt}
 use Rattle.ring.specs.Polynomials.{Poly, InRing, bit, mul, spread, pow}
-use Rattle.ring.specs.Chain.{Rung, doubled, longer, climb, digits, halvings, top, chain}
+use Rattle.ring.specs.Chain.{Rung, doubled, longer, climb, digits, halvings, top, climbed, chain, chainProducts}
 use Rattle.ring.proofs.Binary.{bit-bitAt}
 use Rattle.ring.proofs.Powers
 use Rattle.ring.proofs.Inverses
@@ -69,9 +70,28 @@ module _ (r : ℕ) (pos : 0 < r) {a : Poly} (ha : InRing r a) where
       climb-holds u n (longer r a (bitAt u n) (doubled r e)) (step-holds (bitAt u n) e h) (next-span r a u n e l)
 
   pub chain-is : 2 < r → chain r a ≡ Inverses.candidate r a
-  unfolding chain Holds
+  unfolding chain climbed Holds
   chain-is big =
       let u : ℕ = r - 2 in
       ap (spread r 2)
-      (climb-holds u (top u) (record { value = a; span = 1 }) (sym (Powers.pow-self r pos ha)) (sym (top-one u (omega arith))))
+      (climb-holds u (top u) (record { value = a; span = 1; products = 0 }) (sym (Powers.pow-self r pos ha)) (sym (top-one u (omega arith))))
       ∙ Inverses.ones-end r pos a (omega arith)
+
+-- A product for each digit that is read, and one more for each that is 1: the digits of u but the highest, and its ones but that.
+unfoldable pub price : List Bool → ℕ
+price [] = 0
+price (digit ∷ rest) = 1 + bit digit + price rest
+
+pub climb-price : (r : ℕ) (a : Poly) (e : Rung) (read : List Bool) → climb r a e read .products ≡ e .products + price read
+unfolding climb longer doubled price
+climb-price r a e [] = sym (add-zero (e .products))
+climb-price r a e (digit ∷ rest) =
+    climb-price r a (longer r a digit (doubled r e)) rest ∙ rw (step-price digit) (add-assoc (e .products) (1 + bit digit) (price rest))
+  where
+    step-price : (digit : Bool) → longer r a digit (doubled r e) .products ≡ e .products + (1 + bit digit)
+    step-price true = omega arith
+    step-price false = omega arith
+
+pub chain-products : (r : ℕ) (a : Poly) → chainProducts r a ≡ price (digits (top (r - 2)) (r - 2))
+unfolding chainProducts climbed
+chain-products r a = climb-price r a _ (digits (top (r - 2)) (r - 2)) ∙ zero-add _

@@ -8,9 +8,11 @@ use native.Mathlib.Omega.{arith}
 use borrow.Author.Tests.{ltb-true, leb-true, eqb-true}
 use lib.Dec.{eqb, leb, ltb}
 use lib.ListN.{getD}
-use Rattle.ring.specs.Chain.{halvings, top}
+use Rattle.hashing.specs.Lists.{bitAt}
+use Rattle.ring.specs.Chain.{doubled, longer, climb, digits, halvings, top, climbed, chainProducts}
 use Rattle.ring.specs.inner.Sizes.{mostD, mostT, wordBits}
 use Rattle.ring.specs.Invertible.{RunsThrough}
+use Rattle.ring.specs.Polynomials.{Poly}
 use Rattle.ring.specs.Levels.{Level, level1, level3, table, rowIn, levelOf, polyBytes, polyWords, padBits, positionBits, ciphertextBytes, privateBytes, masked}
 use Rattle.ring.proofs.Bools.{both-true}
 use Rattle.ring.proofs.Walks.{walk, walk-runs}
@@ -167,3 +169,8 @@ computed1 = refl
 pub computed3 : computed level3 ≡ 3083 ∷ 386 ∷ 5 ∷ 3115 ∷ 476 ∷ 53 ∷ 14 ∷ []
 unfolding computed level3 top halvings
 computed3 = refl
+
+-- the price of an inverse in full products, whatever the polynomial: its value is never looked at
+pub chain-price : (a : Poly) → (chainProducts (level1 .r) a ≡ 16) × (chainProducts (level3 .r) a ≡ 18)
+unfolding level1 level3 chainProducts climbed climb digits doubled longer top halvings bitAt
+chain-price a = (refl, refl)

@@ -9,11 +9,11 @@ use borrow.Author.Tests.{eq-eqb}
 use lib.ListN.{length}
 use Rattle.hashing.specs.Answers.{firstOf, differs}
 use Rattle.hashing.specs.Lists.{bits}
-use Rattle.hashing.proofs.Answers.{done, refused, last-applies, last-clear, one-outcome, one-output}
+use Rattle.hashing.proofs.Answers.{done, refused, last-applies, last-clear, one-outcome, one-output, one-number}
 use Rattle.ring.specs.Bytes.{padSet}
 use Rattle.ring.specs.Levels.{known, levelOf, polyBytes}
 use Rattle.ring.specs.Polynomials.{Poly, InRing, one, mul, hasInverse}
-use Rattle.ring.specs.Promises.{ProductPromise, inverse-reasons, inverse-says, InversePromise}
+use Rattle.ring.specs.Promises.{ProductPromise, inverse-reasons, inverse-says, InversePromise, ProductsPromise}
 use Rattle.ring.proofs.Inverses.{inverse-found, no-inverse}
 use Rattle.ring.proofs.Judging.{inverse-numbered}
 use Rattle.ring.proofs.Levels.{r-pos}
@@ -22,9 +22,11 @@ pub product-just-one : (level : ℕ) (a b : List ℕ) (room : ℕ) {r r′ : ℕ
     → ProductPromise level a b room r out → ProductPromise level a b room r′ out′ → (r ≡ r′) × (out ≡ out′)
 product-just-one level a b room = one-output
 
-pub inverse-just-one : (level : ℕ) (a : List ℕ) (room : ℕ) {r r′ : ℕ} {out out′ : List ℕ}
-    → InversePromise level a room r out → InversePromise level a room r′ out′ → (r ≡ r′) × (out ≡ out′)
-inverse-just-one level a room = one-output
+pub inverse-just-one : (level : ℕ) (a : List ℕ) (room : ℕ) {r r′ products products′ : ℕ} {out out′ : List ℕ}
+    → InversePromise level a room r out × ProductsPromise level a room products
+    → InversePromise level a room r′ out′ × ProductsPromise level a room products′
+    → ((r ≡ r′) × (out ≡ out′)) × (products ≡ products′)
+inverse-just-one level a room one two = (one-output (one .0) (two .0), one-number (one .1) (two .1))
 
 -- Where level, lengths and pads are right, `inverse` gives 5 exactly if no polynomial of the ring multiplies the given one to 1.
 module _ (level : ℕ) (a : List ℕ) (room : ℕ) (levelKnown : known level ≡ true) (size : length a ≡ polyBytes (levelOf level))

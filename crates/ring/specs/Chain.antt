@@ -8,17 +8,18 @@ use lib.Dec.{ltb}
 use Rattle.hashing.specs.Lists.{bitAt}
 use Rattle.ring.specs.Polynomials.{Poly, mul, spread}
 
--- where the chain stands: a^(2^k - 1), and its span k, the exponent's length
+-- where the chain stands: a^(2^k - 1), its span k, the exponent's length, and how many products led to it
 pub record Rung : Type 0 where
   pub value : Poly
   pub span : ℕ
+  pub products : ℕ
 
 unfoldable pub doubled : ℕ → Rung → Rung
 doubled r e =
-    record { value = mul r (spread r (2 ^ e .span) (e .value)) (e .value); span = e .span + e .span }
+    record { value = mul r (spread r (2 ^ e .span) (e .value)) (e .value); span = e .span + e .span; products = e .products + 1 }
 
 unfoldable pub longer : ℕ → Poly → Bool → Rung → Rung
-longer r a true e = record { value = mul r (spread r 2 (e .value)) a; span = e .span + 1 }
+longer r a true e = record { value = mul r (spread r 2 (e .value)) a; span = e .span + 1; products = e .products + 1 }
 longer r a false e = e
 
 unfoldable pub climb : ℕ → Poly → Rung → List Bool → Rung
@@ -38,5 +39,12 @@ halvings (suc steps) u = elim (ltb u 2) [ true ↦ 0 | false ↦ suc (halvings s
 unfoldable pub top : ℕ → ℕ
 top u = halvings u u
 
+unfoldable pub climbed : ℕ → Poly → Rung
+climbed r a = climb r a (record { value = a; span = 1; products = 0 }) (digits (top (r - 2)) (r - 2))
+
 unfoldable pub chain : ℕ → Poly → Poly
-chain r a = spread r 2 (climb r a (record { value = a; span = 1 }) (digits (top (r - 2)) (r - 2)) .value)
+chain r a = spread r 2 (climbed r a .value)
+
+-- "the count reported has passed through them all"
+unfoldable pub chainProducts : ℕ → Poly → ℕ
+chainProducts r a = climbed r a .products

@@ -6,10 +6,11 @@ use mathlib.Core.List.{List, [], _∷_, _++_}
 use Prim.Native.Nat.{ℕ}
 use lib.ListN.{length}
 use Rattle.hashing.specs.Lists.{bits}
-use Rattle.hashing.specs.Answers.{Reason, Outcome, differs, settle}
+use Rattle.hashing.specs.Answers.{Reason, Outcome, differs, settle, reported}
 use Rattle.hashing.specs.Answers.Outcome.{gives}
 use Rattle.ring.specs.Polynomials.{mul, hasInverse, inverseOf}
 use Rattle.ring.specs.Bytes.{bytesOf, padSet}
+use Rattle.ring.specs.Chain.{chainProducts}
 use Rattle.ring.specs.Levels.{known, levelOf, polyBytes}
 
 -- product: two polynomials, one
@@ -46,3 +47,10 @@ inverse-says level a room =
 
 abbrev pub InversePromise : ℕ → List ℕ → ℕ → ℕ → List ℕ → Type 0
 InversePromise level a room r out = gives r (out ∷ []) ≡ inverse-says level a room
+
+-- beside it, the products of the chain: "Refusals 1 to 3 report 0, refusal 5 the full count"
+unfoldable pub products-say : ℕ → List ℕ → ℕ → List ℕ
+products-say level a room = reported (settle (inverse-reasons level a room) []) (chainProducts (levelOf level .r) (bits 8 a) ∷ [])
+
+abbrev pub ProductsPromise : ℕ → List ℕ → ℕ → ℕ → Type 0
+ProductsPromise level a room products = products ∷ [] ≡ products-say level a room

@@ -7,21 +7,30 @@ use crate::times::MANY;
 use crate::times::times;
 ghost use mathlib.Core.Path.{_≡_};
 ghost use mathlib.Core.Bool.{true};
-ghost use Prim.Native.Nat.{ℕ, _-_, _%_, _^_, _≤_, _<_};
+ghost use Prim.Native.Nat.{ℕ, _+_, _-_, _%_, _^_, _≤_, _<_};
 ghost use lib.Dec.{eqb};
 ghost use Rattle.hashing.specs.Lists.{bits};
 ghost use Rattle.ring.specs.Polynomials.{InRing, Tells, one, mul, spread, hasInverse, inverseOf};
 ghost use Rattle.ring.specs.Chain;
-ghost use Rattle.ring.specs.Chain.{doubled, longer, chain};
+ghost use Rattle.ring.specs.Chain.{doubled, longer, chain, chainProducts};
 ghost use Rattle.ring.specs.inner.Ones.{Ones};
 ghost use Rattle.ring.specs.inner.Sizes.{wordBits};
 
-// A product of the chain: k squarings of x, times y.
-fn step(r: usize, x: [u64; WORDS], k: usize, y: [u64; WORDS], ones: usize) -> [u64; WORDS]
-    requires { ⌜ (r % 2 ≡ 1) × (64 ≤ r) × (r < wordBits) ⌝ ∗ ⌜ InRing r (bits 64 y) ⌝ ∗ ⌜ Ones r (bits 64 y) ones ⌝ }
-    ensures { λ z. ⌜ bits 64 z ≡ mul r (spread r (2 ^ k) (bits 64 x)) (bits 64 y) ⌝ }
+// Where the chain stands, and how many products led to it.
+struct Product {
+    value: [u64; WORDS],
+    count: u32,
+}
+
+// A product of the chain: k squarings of x, times y; the count so far is one higher.
+fn step(r: usize, x: [u64; WORDS], k: usize, y: [u64; WORDS], ones: usize, count: u32) -> Product
+    requires { ⌜ (r % 2 ≡ 1) × (64 ≤ r) × (r < wordBits) ⌝ ∗ ⌜ InRing r (bits 64 y) ⌝ ∗ ⌜ Ones r (bits 64 y) ones ⌝ ∗ ⌜ count < 128 ⌝ }
+    ensures { λ z. ⌜ bits 64 (z .value) ≡ mul r (spread r (2 ^ k) (bits 64 x)) (bits 64 y) ⌝ ∗ ⌜ z .count ≡ count + 1 ⌝ }
 {
-    times(r, squared(r, x, k), y, ones)
+    Product {
+        value: times(r, squared(r, x, k), y, ones),
+        count: count + 1,
+    }
 }
 
 // From a^(2^k - 1) to the next rung: the exponent is doubled in length, and is one longer where the digit is 1.
@@ -33,14 +42,17 @@ fn climb(
     ones_x: usize,
     k: usize,
     digit: usize,
-) -> [u64; WORDS]
+    count: u32,
+) -> Product
     requires { ⌜ (r % 2 ≡ 1) × (64 ≤ r) × (r < wordBits) ⌝ ∗ ⌜ InRing r (bits 64 a) × InRing r (bits 64 x) ⌝
-        ∗ ⌜ Ones r (bits 64 a) ones × Ones r (bits 64 x) «ones_x» ⌝ }
-    ensures { λ y. ⌜ bits 64 y ≡ longer r (bits 64 a) (eqb digit 1) (doubled r (record { value = bits 64 x; span = k })) .value ⌝ }
+        ∗ ⌜ Ones r (bits 64 a) ones × Ones r (bits 64 x) «ones_x» ⌝ ∗ ⌜ count < 127 ⌝ }
+    ensures { λ y. ⌜ bits 64 (y .value) ≡ longer r (bits 64 a) (eqb digit 1) (doubled r (record { value = bits 64 x; span = k; products = count })) .value ⌝
+        ∗ ⌜ y .count ≡ longer r (bits 64 a) (eqb digit 1) (doubled r (record { value = bits 64 x; span = k; products = count })) .products ⌝ }
 {
-    let twice = step(r, x, k, x, ones_x);
+    let twice = step(r, x, k, x, ones_x, count);
     if digit == 1 {
-        return step(r, twice, 1, a, ones);
+        let value = twice.value;
+        return step(r, value, 1, a, ones, twice.count);
     }
     twice
 }
@@ -54,21 +66,26 @@ pub fn top(u: usize) -> usize
 }
 
 // The first doubling has a itself for a factor, the others what the chain has made.
-fn power(r: usize, a: [u64; WORDS], ones: usize) -> [u64; WORDS]
+fn power(r: usize, a: [u64; WORDS], ones: usize) -> Product
     requires { ⌜ (r % 2 ≡ 1) × (64 ≤ r) × (r < wordBits) ⌝ ∗ ⌜ InRing r (bits 64 a) ⌝ ∗ ⌜ Ones r (bits 64 a) ones ⌝ }
-    ensures { λ x. ⌜ bits 64 x ≡ chain r (bits 64 a) ⌝ }
+    ensures { λ x. ⌜ bits 64 (x .value) ≡ chain r (bits 64 a) ⌝ ∗ ⌜ x .count ≡ chainProducts r (bits 64 a) ⌝ }
 {
     let u = r - 2;
     let mut x = a;
     let mut ones_x = ones;
+    let mut count = 0;
     let mut n = top(u);
     while 0 < n {
         n -= 1;
-        let next = climb(r, a, ones, x, ones_x, u >> (n + 1), (u >> n) % 2);
-        x = next;
+        let next = climb(r, a, ones, x, ones_x, u >> (n + 1), (u >> n) % 2, count);
+        x = next.value;
+        count = next.count;
         ones_x = MANY;
     }
-    once(r, x)
+    Product {
+        value: once(r, x),
+        count,
+    }
 }
 
 fn is_one(x: [u64; WORDS]) -> bool
@@ -79,21 +96,25 @@ fn is_one(x: [u64; WORDS]) -> bool
     is_zero(&y)
 }
 
-// The inverse, if there is one.
+// The inverse, if there is one, and how many products its chain took.
 pub struct Inverse {
     pub exists: bool,
     pub value: [u64; WORDS],
+    pub products: u32,
 }
 
 // a has so many ones, if these are few.
 pub fn invert(r: usize, a: [u64; WORDS], ones: usize) -> Inverse
     requires { ⌜ (r % 2 ≡ 1) × (64 ≤ r) × (r < wordBits) × (2 ^ (r - 1) % r ≡ 1) ⌝ ∗ ⌜ InRing r (bits 64 a) ⌝ ∗ ⌜ Ones r (bits 64 a) ones ⌝ }
-    ensures { λ i. ⌜ i .exists ≡ hasInverse r (bits 64 a) ⌝ ∗ ⌜ (i .exists ≡ true → bits 64 (i .value) ≡ inverseOf r (bits 64 a)) ⌝ }
+    ensures { λ i. ⌜ i .exists ≡ hasInverse r (bits 64 a) ⌝ ∗ ⌜ (i .exists ≡ true → bits 64 (i .value) ≡ inverseOf r (bits 64 a)) ⌝
+        ∗ ⌜ i .products ≡ chainProducts r (bits 64 a) ⌝ }
 {
-    let value = power(r, a, ones);
+    let made = power(r, a, ones);
+    let value = made.value;
     Inverse {
         exists: is_one(times(r, value, a, ones)),
         value,
+        products: made.count,
     }
 }
 
@@ -103,5 +124,6 @@ pub fn invert_unit(r: usize, a: [u64; WORDS], ones: usize) -> [u64; WORDS]
         ∗ ⌜ hasInverse r (bits 64 a) ≡ true ⌝ }
     ensures { λ x. ⌜ bits 64 x ≡ inverseOf r (bits 64 a) ⌝ }
 {
-    power(r, a, ones)
+    let made = power(r, a, ones);
+    made.value
 }

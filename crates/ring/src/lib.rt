@@ -20,7 +20,7 @@ pub use size::WORDS;
 ghost use mathlib.Core.Path.{_≡_};
 ghost use lib.ListN.{length};
 ghost use Rattle.hashing.specs.Answers.{firstOf};
-ghost use Rattle.ring.specs.Promises.{product-reasons, ProductPromise, inverse-reasons, InversePromise};
+ghost use Rattle.ring.specs.Promises.{product-reasons, ProductPromise, inverse-reasons, InversePromise, ProductsPromise};
 
 fn judge_product(level: u32, a: &[u8], b: &[u8], room: usize) -> u32
     ensures { λ r. ⌜ r ≡ firstOf (product-reasons level (now (a .entry)) (now (b .entry)) room) ⌝ }
@@ -58,20 +58,37 @@ fn judge_inverse(level: u32, a: &[u8], room: usize) -> u32
     judge_product(level, a, a, room)
 }
 
-pub fn inverse(level: u32, a: &[u8], out: &mut [u8]) -> u32
-    ensures { λ r. ⌜ InversePromise level (now (a .entry)) (length (now (out .entry))) r (now (out .exit)) ⌝ }
+// What `inverse` answers, and how many products of the chain it took.
+pub struct Inverted {
+    pub answer: u32,
+    pub products: u32,
+}
+
+pub fn inverse(level: u32, a: &[u8], out: &mut [u8]) -> Inverted
+    ensures { λ r. ⌜ InversePromise level (now (a .entry)) (length (now (out .entry))) (r .answer) (now (out .exit)) ⌝ }
+    ensures { λ r. ⌜ ProductsPromise level (now (a .entry)) (length (now (out .entry))) (r .products) ⌝ }
 {
     let answer = judge_inverse(level, a, out.len());
     if answer != 0 {
-        return refuse::one(answer, out);
+        return Inverted {
+            answer: refuse::one(answer, out),
+            products: 0,
+        };
     }
     let r = size::block(level);
     let x = words::load(a);
     let found = invert::invert(r, x, words::weight(x, r / 64 + 1));
     if !found.exists {
-        return refuse::one(5, out);
+        return Inverted {
+            answer: refuse::one(5, out),
+            products: found.products,
+        };
     }
     let value = found.value;
+    let products = found.products;
     words::store(value, out);
-    0
+    Inverted {
+        answer: 0,
+        products,
+    }
 }

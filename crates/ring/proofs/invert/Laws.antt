@@ -2,7 +2,7 @@
 use mathlib.Core.Path.{_≡_, refl, sym, ap, ap₂, fun-ext, _∙_}
 use mathlib.Core.Bool.{Bool, true, false, true≢false}
 use mathlib.Core.List.{List}
-use Prim.Native.Nat.{ℕ, zero, suc, _+_, _-_, _/_, _%_, _^_, _≤_, _<_}
+use Prim.Native.Nat.{ℕ, zero, suc, _+_, _*_, _-_, _/_, _%_, _^_, _≤_, _<_}
 use native.Mathlib.Nat.{zero-mod, le-antisymm, div-eq-of-lt, le-div-iff-mul-le, one-mul}
 use native.Mathlib.Decide.{decLt, ℕ-discrete}
 use native.Mathlib.Numerals.{add-one, one-add}
@@ -48,14 +48,24 @@ top-leading u some small =
 
 -- the next rung of the chain, by the digit n of u
 module _ (r : ℕ) (a : Poly) (u n : ℕ) where
-  pub next-rung : (x : Poly) → climb r a (record { value = x; span = u / 2 ^ (n + 1) }) (digits (n + 1) u)
-      ≡ climb r a (record { value = longer r a (bitAt u n) (doubled r (record { value = x; span = u / 2 ^ (n + 1) })) .value; span = u / 2 ^ n }) (digits n u)
+  pub next-rung : (x : Poly) (count : ℕ) →
+      let e : Rung = record { value = x; span = u / 2 ^ (n + 1); products = count } in
+      let next = longer r a (bitAt u n) (doubled r e) in
+      climb r a e (digits (n + 1) u) ≡ climb r a (record { value = next .value; span = u / 2 ^ n; products = next .products }) (digits n u)
   unfolding climb digits
-  next-rung x =
-      let e : Rung = record { value = x; span = u / 2 ^ suc n } in
+  next-rung x count =
+      let e : Rung = record { value = x; span = u / 2 ^ suc n; products = count } in
+      let next : Rung = longer r a (bitAt u n) (doubled r e) in
       rw (add-one n)
-      (ap (λ (l : ℕ). climb r a (record { value = longer r a (bitAt u n) (doubled r e) .value; span = l }) (digits n u))
+      (ap (λ (l : ℕ). climb r a (record { value = next .value; span = l; products = next .products }) (digits n u))
       (next-span r a u n e refl))
+
+-- which takes two products at most
+pub rung-price : (r : ℕ) (a : Poly) (digit : Bool) (e : Rung) (n most : ℕ) → e .products + 2 * (n + 1) < most
+    → longer r a digit (doubled r e) .products + 2 * n < most
+unfolding longer doubled
+rung-price r a true e n most few = omega (arith, few)
+rung-price r a false e n most few = omega (arith, few)
 
 pub rung-in : (r : ℕ) → 0 < r → (a : Poly) (digit : Bool) (e : Rung) → InRing r (longer r a digit (doubled r e) .value)
 unfolding longer doubled
