@@ -219,10 +219,22 @@ static uint32_t invert(const struct level *v, const struct lent lent[])
     return exists ? 0 : 5;
 }
 
-uint32_t ref_inverse(uint32_t level, const uint8_t *a, size_t an, uint8_t *out, size_t on)
+/* The price of the chain: a product for each binary digit of r - 2 below the highest, and one more for each that is 1. */
+static uint32_t chain_products(uint32_t r)
+{
+    uint32_t products = (wrong(W_PRICE_CHECK) ? 1 : 0) + (wrong(W_PRICE_SQUARINGS) ? r - 2 : 0);
+    for (uint32_t digits = r - 2; digits > (wrong(W_PRICE_FIRST_DIGIT) ? 0 : 1); digits /= 2)
+        products += 1 + digits % 2;
+    return products;
+}
+
+uint32_t ref_inverse(uint32_t level, const uint8_t *a, size_t an, uint8_t *out, size_t on, uint32_t *products)
 {
     const struct lent lent[] = {input(POLYNOMIAL, a, an), output(POLYNOMIAL, out, on)};
-    return enter(level, lent, 2, invert);
+    uint32_t answer = enter(level, lent, 2, invert);
+    bool told = answer == 0 || (answer == 5 && !wrong(W_PRICE_0_AFTER_5)) || (answer == 3 && wrong(W_PRICE_AFTER_3));
+    *products = told ? chain_products(level_of(level)->r) : 0;
+    return answer;
 }
 
 /* Lent are e0 and e1. */

@@ -5,7 +5,7 @@
  * position is >= r or not rising; 5 no inverse exists; 6 decoding failed; 7 record cut; 8 record of unknown kind;
  * 9 record length not its kind's; 10 the words ran out. The smallest number that applies is given, but 10 before 5;
  * after 1 nothing else is looked at, and a refusal fills all outputs with zero at their actual lengths. The numbers
- * that an entry reports are 0 then, but for the rounds with 6. */
+ * that an entry reports are 0 then, but for the rounds with 6 and the products with 5. */
 #ifndef REF_BIKE_H
 #define REF_BIKE_H
 
@@ -21,7 +21,8 @@ uint32_t ref_sha3_384(const uint8_t *m, size_t mn, uint8_t *out, size_t on);
 
 uint32_t ref_product(uint32_t level, const uint8_t *a, size_t an, const uint8_t *b, size_t bn,
                      uint8_t *out, size_t on);
-uint32_t ref_inverse(uint32_t level, const uint8_t *a, size_t an, uint8_t *out, size_t on);
+/* With the full products of its chain, which 5 tells too. */
+uint32_t ref_inverse(uint32_t level, const uint8_t *a, size_t an, uint8_t *out, size_t on, uint32_t *products);
 
 uint32_t ref_error_of(uint32_t level, const uint8_t *m, size_t mn,
                       uint8_t *e0, size_t e0n, uint8_t *e1, size_t e1n, uint32_t *replaced);

@@ -11,7 +11,7 @@ static const struct {
     unsigned given, ins, outs, numbers;
 } shapes[ENTRIES] = {
     [SHAKE256] = {0, 1, 1, 0},        [SHA3_384] = {0, 1, 1, 0},    [PRODUCT] = {0, 2, 1, 0},
-    [INVERSE] = {0, 1, 1, 0},         [ERROR_OF] = {0, 1, 2, 1},    [DECODE] = {0, 2, 2, 0},
+    [INVERSE] = {0, 1, 1, 1},         [ERROR_OF] = {0, 1, 2, 1},    [DECODE] = {0, 2, 2, 0},
     [MAKE_KEY] = {0, 1, 2, 4},        [WRAP] = {0, 2, 2, 0},        [OPEN] = {0, 2, 1, 0},
     [READ_RECORD] = {0, 1, 0, 3},     [PACK_KEY] = {0, 1, 1, 0},    [UNPACK_KEY] = {0, 1, 1, 0},
     [FAIR_POLYNOMIAL] = {0, 1, 1, 2}, [WRITE_MAP] = {2, 2, 1, 0},   [ACCEPT_MAP] = {2, 3, 0, 1},
@@ -144,7 +144,7 @@ static uint32_t call(const struct test_case *c, uint8_t *const in[3], uint8_t *c
     case SHAKE256: return ref_shake256(a, an, x, xn);
     case SHA3_384: return ref_sha3_384(a, an, x, xn);
     case PRODUCT: return ref_product(c->level, a, an, b, bn, x, xn);
-    case INVERSE: return ref_inverse(c->level, a, an, x, xn);
+    case INVERSE: return ref_inverse(c->level, a, an, x, xn, numbers);
     case ERROR_OF: return ref_error_of(c->level, a, an, x, xn, y, yn, numbers);
     case DECODE: return ref_decode(c->level, a, an, b, bn, x, xn, y, yn);
     case MAKE_KEY: return ref_make_key(c->level, a, an, x, xn, y, yn, numbers);

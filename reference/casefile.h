@@ -36,7 +36,7 @@ struct result {
     uint32_t answer;
     struct buffer out[2]; /* of an acceptance: the map that it keeps */
     /* H: replaced positions; fair polynomial: words used, passed over; key making: those of h0, of h1;
-     * record: level, thing, body length; acceptance: the counter that it keeps; decoding that stops early: rounds */
+     * record: level, thing, body length; acceptance: the counter that it keeps; decoding that stops early: rounds; inverse: products */
     uint32_t numbers[NUMBERS_MAX];
 };
 

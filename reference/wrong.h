@@ -152,7 +152,12 @@
     X(EARLY_MASKED, "stopping early: the masked steps counted as rounds") \
     X(EARLY_FAILS_0, "stopping early: 0 rounds told after 6") \
     X(EARLY_FAILS_6, "stopping early: 6 rounds told after 6") \
-    X(EARLY_WEIGHT_1, "stopping early: at a residual of weight 1 too")
+    X(EARLY_WEIGHT_1, "stopping early: at a residual of weight 1 too") \
+    X(PRICE_CHECK, "price of an inverse: the last check counted") \
+    X(PRICE_SQUARINGS, "price of an inverse: squarings counted") \
+    X(PRICE_FIRST_DIGIT, "price of an inverse: the highest digit counted") \
+    X(PRICE_0_AFTER_5, "price of an inverse: 0 told after 5") \
+    X(PRICE_AFTER_3, "price of an inverse: the count told after 3")
 
 #define WRONG_NAME(name, text) W_##name,
 enum { W_NONE, WRONG_READINGS(WRONG_NAME) W_COUNT };

@@ -68,6 +68,11 @@ fn silent(answer: u32) -> Said {
     told(answer, 0, 0, 0)
 }
 
+fn inverse(level: u32, a: &[u8], out: &mut [u8]) -> Said {
+    let inverted = ring::inverse(level, a, out);
+    told(inverted.answer, 1, inverted.products, 0)
+}
+
 fn error_of(level: u32, message: &[u8], e0: &mut [u8], e1: &mut [u8]) -> Said {
     let counted = exchange::error_of(level, message, e0, e1);
     told(counted.answer, 1, counted.replaced, 0)
@@ -116,7 +121,7 @@ fn called(case: Case, a: &[u8], b: &[u8], out0: &mut [u8], out1: &mut [u8]) -> S
         1 => silent(hashing::shake256(a, out0)),
         2 => silent(hashing::sha3_384(a, out0)),
         3 => silent(ring::product(level, a, b, out0)),
-        4 => silent(ring::inverse(level, a, out0)),
+        4 => inverse(level, a, out0),
         5 => error_of(level, a, out0, out1),
         6 => silent(exchange::decode(level, a, b, out0, out1)),
         7 => make_key(level, a, out0, out1),
