@@ -13,6 +13,7 @@ pub mod Pigeonhole
 pub mod Powers
 pub mod Promises
 pub mod Ring
+pub mod Rotations
 pub mod Shifts
 pub mod Upper
 pub mod Walks
