@@ -8,18 +8,22 @@ use native.Mathlib.Decide.{decLt, ℕ-discrete}
 use native.Mathlib.Omega.{arith}
 use borrow.Author.Tests.{lt-ltb, le-ltb, le-leb, ltb-true, eq-eqb, ne-eqb}
 use lib.Dec.{leb, ltb, eqb}
-use lib.ListN.{length, getD, take, drop, length-append}
-use lib.Seq.{drop-at, ext-getD}
+use lib.ListN.{length, getD, take, drop, length-append, length-drop, take-append-drop}
+use lib.Seq.{drop-at, drop-drop, ext-getD, take-suc}
 use Rattle.hashing.specs.Lists.{tab}
 use Rattle.hashing.proofs.Lists.{length-tab, getD-tab}
 use Rattle.ring.specs.Polynomials.{Poly, InRing, rising, weight, listed, support}
 use Rattle.ring.proofs.Bools.{both-true}
+use Rattle.ring.proofs.Layouts.{Below}
 use Rattle.ring.proofs.Weights.{length-rising}
+use Rattle.ring.proofs.little_endian.Laws.{byte-more}
 use Rattle.ring.proofs.times.Laws.{bounded}
 use Rattle.ring.specs.Bytes.{littleEndian, numbers}
 use Rattle.ring.specs.Levels.{Level}
-use Rattle.exchange.specs.decoder.PrivateKey.{positions0, positions1, tail, secret, risingFrom}
+use Rattle.exchange.specs.decoder.PrivateKey.{positions0, positions1, tail, secret, risingFrom, goodKey}
 use Rattle.exchange.specs.Scheme.{twoBytes, privateKey}
+use Rattle.exchange.proofs.Streams.{below-drop}
+use Rattle.exchange.proofs.decoder.Listing.{rising-in, rising-unique}
 
 -- two bytes read back
 two-back : (p : ℕ) (rest : List ℕ) → littleEndian (take 2 (p % 256 ∷ p / 256 ∷ rest)) ≡ p
@@ -45,6 +49,29 @@ pub length-twoBytes : (ps : List ℕ) → length (twoBytes ps) ≡ 2 * length ps
 unfolding twoBytes
 length-twoBytes [] = refl
 length-twoBytes (p ∷ ps) = omega (arith, length-twoBytes ps)
+
+pub twoBytes-append : (xs ys : List ℕ) → twoBytes (xs ++ ys) ≡ twoBytes xs ++ twoBytes ys
+unfolding twoBytes
+twoBytes-append [] ys = refl
+twoBytes-append (x ∷ xs) ys = ap (λ (rest : List ℕ). x % 256 ∷ x / 256 ∷ rest) (twoBytes-append xs ys)
+
+-- two bytes that are read and written again are the same bytes
+pub two-at : (at : ℕ) (bytes : List ℕ) → littleEndian (take 2 (drop at bytes)) ≡ getD bytes at 0 + 256 * getD bytes (at + 1) 0
+unfolding littleEndian
+two-at at bytes = omega (arith, byte-more 1 at bytes, byte-more 0 (at + 1) bytes)
+
+pub two-again : (n : ℕ) (bytes : List ℕ) → Below 8 bytes → 2 * n ≤ length bytes → twoBytes (numbers 2 n bytes) ≡ take (2 * n) bytes
+unfolding numbers tab twoBytes
+two-again zero bytes small room = refl
+two-again (suc n) bytes small room =
+    let x = littleEndian (take 2 (drop (2 * n) bytes)) in
+    let next : 2 * suc n ≡ suc (suc (2 * n)) = omega arith in
+    let at : suc (2 * n) ≡ 2 * n + 1 = omega arith in
+    let low : x % 256 ≡ getD bytes (2 * n) 0 = omega (arith, two-at (2 * n) bytes, small (2 * n)) in
+    let high : x / 256 ≡ getD bytes (suc (2 * n)) 0 = rw at (omega (arith, two-at (2 * n) bytes, small (2 * n))) in
+    twoBytes-append (numbers 2 n bytes) (x ∷ [])
+    ∙ rw (two-again n bytes small (omega arith), low, high, next, take-suc bytes (suc (2 * n)) 0 (omega arith), take-suc bytes (2 * n) 0 (omega arith))
+    (sym (append-assoc (take (2 * n) bytes) (getD bytes (2 * n) 0 ∷ []) (getD bytes (suc (2 * n)) 0 ∷ [])))
 
 -- the exponents in rising order are the polynomial's
 listed-append : (k : ℕ) (xs ys : List ℕ) → listed k (xs ++ ys) ≡ listed k xs || listed k ys
@@ -145,3 +172,26 @@ rising-good (suc n) a = go (a n) (rising-good n a)
     go : (b : Bool) → risingFrom n 0 (rising n a) ≡ true → risingFrom (suc n) 0 (rising n a ++ (elim b as (λ _. List ℕ) [ true ↦ n ∷ [] | false ↦ [] ])) ≡ true
     go true e = rising-snoc n 0 (rising n a) zero-le e
     go false e = let wider : n ≤ suc n = omega arith in rw (append-nil (rising n a)) (rising-wider n (suc n) 0 (rising n a) wider e)
+
+-- positions that rise are the only ones of their polynomial that do, so they are the exponents in rising order
+pub rising-support : (r : ℕ) → 0 < r → (ps : List ℕ) → risingFrom r 0 ps ≡ true → rising r (support ps) ≡ ps
+rising-support r pos ps good =
+    rising-unique r 0 (rising r (support ps)) ps (rising-good r (support ps)) good (support-rising r (rising-in r pos 0 ps good))
+
+-- so a good private key that is read and written again is the same bytes
+pub key-again : (l : Level) → 0 < l .r → (key : List ℕ) → Below 8 key → 2 * (l .d + l .d) ≤ length key → goodKey l key ≡ true
+    → privateKey (l .r) (secret l key .half0) (secret l key .half1) (tail l key) ≡ key
+unfolding privateKey secret goodKey positions0 positions1 tail
+key-again l pos key small room good =
+    let rise = both-true (risingFrom (l .r) 0 (positions0 l key)) _ good in
+    let both : 2 * (l .d + l .d) ≡ 2 * l .d + 2 * l .d = omega arith in
+    rw (
+      rising-support (l .r) pos (positions0 l key) (rise .0),
+      rising-support (l .r) pos (positions1 l key) (rise .1),
+      two-again (l .d) key small (omega arith),
+      two-again (l .d) (drop (2 * l .d) key) (below-drop 8 (2 * l .d) key small) (rw (length-drop (2 * l .d) key) (omega arith)),
+      both,
+      ← drop-drop (2 * l .d) (2 * l .d) key,
+      take-append-drop (2 * l .d) (drop (2 * l .d) key),
+    )
+    (take-append-drop (2 * l .d) key)

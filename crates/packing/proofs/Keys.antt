@@ -22,11 +22,10 @@ use Rattle.ring.proofs.little_endian.Laws.{numbers-length}
 use Rattle.exchange.specs.Fits.{Bytes}
 use Rattle.exchange.specs.Scheme.{twoBytes}
 use Rattle.exchange.specs.decoder.PrivateKey.{positions0, positions1, tail, risingFrom, goodKey}
-use Rattle.exchange.proofs.Making.{numbers-back, length-twoBytes}
+use Rattle.exchange.proofs.Making.{numbers-back, length-twoBytes, two-again}
 use Rattle.exchange.proofs.Streams.{below-append, below-drop}
 use Rattle.packing.specs.Packing.{rowOf, inRow, positionsIn, positions, packedBits, packedBytes, packed, rowPart, unpacked, padded}
 use Rattle.packing.proofs.Rows.{inRow-length, in-rowOf, rowOf-in, rowOf-pad}
-use Rattle.packing.proofs.TwoBytes.{two-again}
 
 -- the positions of both halves are read one after another
 pub positions-both : (l : Level) (key : List ℕ) → positions l key ≡ numbers 2 (positionsIn l) key

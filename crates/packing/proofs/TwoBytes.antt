@@ -1,29 +1,23 @@
 -- Two bytes to a number are a row of 16 bits to a number. Assumes nothing.
 use mathlib.Core.Path.{_≡_, sym, ap, _∙_}
 use mathlib.Core.List.{List, [], _∷_, append-nil}
-use Prim.Native.Nat.{ℕ, zero, suc, _+_, _-_, _*_, _/_, _%_, _^_, _≤_, _<_}
+use Prim.Native.Nat.{ℕ, zero, suc, _+_, _-_, _*_, _/_, _%_, _^_, _<_}
 use native.Mathlib.Decide.{decLt}
 use native.Mathlib.Omega.{arith}
 use lib.Dec.{lit<}
 use lib.ListN.{length, getD, take, drop}
 use lib.Pow.{pow-pos}
-use lib.Seq.{length-take-le, getD-take}
 use Rattle.hashing.specs.Lists.{bitAt, bits}
 use Rattle.hashing.proofs.Lists.{tab-ext}
 use Rattle.hashing.proofs.Words.{bits-at, bit-mod, bit-shr}
 use Rattle.ring.specs.Bytes.{number, listOf, byteLength, littleEndian, numbers}
 use Rattle.ring.proofs.Binary.{number-of}
 use Rattle.ring.proofs.Layouts.{Below, bits-in, pad-rule}
-use Rattle.ring.proofs.little_endian.Laws.{byte-more, bytes-below}
+use Rattle.ring.proofs.little_endian.Laws.{bytes-below}
 use Rattle.exchange.specs.Scheme.{twoBytes}
-use Rattle.exchange.proofs.Making.{numbers-back, length-twoBytes}
-use Rattle.exchange.proofs.Streams.{below-take}
+use Rattle.exchange.proofs.Making.{numbers-back, length-twoBytes, two-at}
 use Rattle.packing.specs.Packing.{rowOf, inRow}
 use Rattle.packing.proofs.Rows.{rowOf-in, inRow-length, inRow-below}
-
-two-at : (at : ℕ) (bytes : List ℕ) → littleEndian (take 2 (drop at bytes)) ≡ getD bytes at 0 + 256 * getD bytes (at + 1) 0
-unfolding littleEndian
-two-at at bytes = omega (arith, byte-more 1 at bytes, byte-more 0 (at + 1) bytes)
 
 -- the number of two bytes, bit by bit
 two-bits : (bytes : List ℕ) → Below 8 bytes → (i : ℕ) → littleEndian (take 2 (drop (2 * i) bytes)) ≡ number 16 (λ e. bits 8 bytes (i * 16 + e))
@@ -73,23 +67,3 @@ twoBytes-row n list long small =
     let back : numbers 2 n (twoBytes list) ≡ list = rw (← long, ← append-nil (twoBytes list)) (numbers-back list []) in
     sym (whole n (twoBytes list) (length-twoBytes list ∙ ap (_*_ 2) long) bytes)
     ∙ ap (rowOf 16 n) (sym (numbers-row n (twoBytes list) bytes) ∙ back)
-
--- two bytes that are read and written again are the same bytes
-pub two-again : (n : ℕ) (bytes : List ℕ) → Below 8 bytes → 2 * n ≤ length bytes → twoBytes (numbers 2 n bytes) ≡ take (2 * n) bytes
-unfolding numbers
-two-again n bytes small room =
-    ap twoBytes (tab-ext n _ _ front ∙ numbers-row n (take (2 * n) bytes) less)
-    ∙ twoBytes-row n (inRow 16 n (take (2 * n) bytes)) (inRow-length 16 n (lit< tt) (take (2 * n) bytes)) (inRow-below 16 n (lit< tt) (take (2 * n) bytes))
-    ∙ whole n (take (2 * n) bytes) (length-take-le (2 * n) bytes room) less
-  where
-    less : Below 8 (take (2 * n) bytes)
-    less = below-take 8 (2 * n) bytes small
-
-    front : (i : ℕ) → i < n → littleEndian (take 2 (drop (2 * i) bytes)) ≡ littleEndian (take 2 (drop (2 * i) (take (2 * n) bytes)))
-    front i below =
-        two-at (2 * i) bytes
-        ∙ rw (
-          two-at (2 * i) (take (2 * n) bytes),
-          getD-take (2 * n) bytes (2 * i) 0 (omega arith),
-          getD-take (2 * n) bytes (2 * i + 1) 0 (omega arith),
-        )

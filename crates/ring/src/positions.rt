@@ -1,9 +1,9 @@
-// The exponents of a polynomial, in rising order. Its weight gives the number of turns, so that what runs does not tell
-// where they lie.
+// The exponents of a polynomial, in rising order, and one of them moved on round the circle. The weight gives the number
+// of turns of the first, so that what runs does not tell where they lie.
 use crate::size::MOST_D;
 use crate::size::WORDS;
 ghost use mathlib.Core.Path.{_≡_};
-ghost use Prim.Native.Nat.{_-_, _^_, _≤_, _<_};
+ghost use Prim.Native.Nat.{_+_, _-_, _%_, _^_, _≤_, _<_};
 ghost use lib.Count.{trailingZeros};
 ghost use lib.ListN.{length, take};
 ghost use Rattle.hashing.specs.Lists.{bits};
@@ -45,4 +45,13 @@ pub fn rising(r: usize, x: [u64; WORDS], count: usize) -> [u16; LISTED]
         turn += 1;
     }
     out
+}
+
+// A place in a circle of r places, moved on.
+pub fn moved(r: usize, at: usize, by: usize) -> usize
+    requires { ⌜ (at < r) × (by ≤ r) × (r < wordBits) ⌝ }
+    ensures { λ p. ⌜ p ≡ (at + by) % r ⌝ }
+{
+    let next = at + by;
+    if next < r { next } else { next - r }
 }

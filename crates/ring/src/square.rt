@@ -4,6 +4,7 @@ use crate::even::alternate;
 use crate::frame::cut;
 use crate::frame::zeros;
 use crate::multiply::padded;
+use crate::positions::moved;
 use crate::size::WORDS;
 use crate::sparse::shown;
 use crate::unpack::unpacked;
@@ -15,15 +16,6 @@ ghost use Rattle.ring.specs.inner.Even.{source};
 ghost use Rattle.ring.specs.inner.Held.{Held, Taken};
 ghost use Rattle.ring.specs.Polynomials.{Poly, InRing, spread};
 ghost use Rattle.ring.specs.inner.Sizes.{words, wordBits, windowWords};
-
-// A place in a circle of r places, moved on.
-fn moved(r: usize, at: usize, by: usize) -> usize
-    requires { ⌜ (at < r) × (by ≤ r) × (r < wordBits) ⌝ }
-    ensures { λ p. ⌜ p ≡ (at + by) % r ⌝ }
-{
-    let next = at + by;
-    if next < r { next } else { next - r }
-}
 
 // A product modulo r.
 fn times(r: usize, h: usize, p: usize) -> usize

@@ -11,8 +11,8 @@ use lib.Dec.{eqb, leb, ltb}
 use lib.ListN.{length, getD, take}
 use lib.Seq.{getD-take, length-take-le}
 use Rattle.hashing.specs.Lists.{bits}
-use Rattle.ring.specs.Polynomials.{Poly, both, bit, add, mul, power, terms, weight, listed, support}
-use Rattle.ring.proofs.Ring.{mul-comm}
+use Rattle.ring.specs.Polynomials.{Poly, InRing, both, bit, add, mul, power, terms, weight, listed, support}
+use Rattle.ring.proofs.Ring.{mul-comm, terms-in}
 use Rattle.exchange.specs.inner.ByteRows.{rowAt, ByteRows}
 use Rattle.exchange.specs.inner.Counting.{total}
 use Rattle.exchange.specs.decoder.Decoder.{counter}
@@ -94,6 +94,9 @@ terms-support r least (p ∷ rest) e = fun-ext (λ k. go k (ℕ-discrete k p) (a
         rw (before, mod-eq-of-lt (head .1), eq-eqb k p here, eq-eqb p k (sym here), here, rising-fresh r (suc p) rest (head .2) p (omega arith))
     go k (no there) before =
         rw (before, mod-eq-of-lt (rising-head r least p rest e .1), ne-eqb k p there, ne-eqb p k (λ same. there (sym same)))
+
+pub rising-in : (r : ℕ) → 0 < r → (least : ℕ) (ps : List ℕ) → risingFrom r least ps ≡ true → InRing r (support ps)
+rising-in r pos least ps good = rw (← terms-support r least ps good) (terms-in r pos ps)
 
 -- one position more that was not listed
 pick-more : (r p : ℕ) (a f : Poly) → p < r → a p ≡ false

@@ -18,7 +18,7 @@ use Rattle.ring.proofs.Invertible.{light-inverts}
 use Rattle.ring.proofs.Levels.{sizes, d-odd}
 use Rattle.exchange.specs.Fair.{ranOut, drawnFor}
 use Rattle.exchange.specs.Scheme.{h0Drawn, h1Drawn, h0Of, h1Of, keyRanOut, keyDigest, twoBytes}
-use Rattle.exchange.proofs.Making.{length-twoBytes}
+use Rattle.exchange.proofs.Making.{length-twoBytes, twoBytes-append}
 use Rattle.exchange.proofs.fair.Laws.{Sound, fair-sound}
 use Rattle.exchange.proofs.sampler.Laws.{distinct-weight}
 
@@ -72,11 +72,6 @@ unfolding keyDigest
 keyDigest-length public = length-take-le messageBytes (sha3-384 public) (rw (sha3-384-length public) (lit≤ tt))
 
 -- two bytes more: the loop that writes positions
-twoBytes-append : (xs ys : List ℕ) → twoBytes (xs ++ ys) ≡ twoBytes xs ++ twoBytes ys
-unfolding twoBytes
-twoBytes-append [] ys = refl
-twoBytes-append (x ∷ xs) ys = ap (λ (rest : List ℕ). x % 256 ∷ x / 256 ∷ rest) (twoBytes-append xs ys)
-
 pub two-more : (i : ℕ) (list out : List ℕ) → i < length list → length out ≡ 2 * length list
     → set (set (twoBytes (take i list) ++ drop (2 * i) out) (2 * i) (getD list i 0 % 256)) (2 * i + 1) (getD list i 0 / 256)
     ≡ twoBytes (take (i + 1) list) ++ drop (2 * (i + 1)) out

@@ -3,8 +3,8 @@ use mathlib.Core.Path.{sym, _∙_}
 use native.Mathlib.Nat.{mod-eq-of-lt, mod-eq-sub-mod}
 use native.Mathlib.Omega.{arith}
 use borrow.Author.Needs.{needs}
-use Rattle.ring.proofs.square.moved.Statement.{statement}
-use Rattle.ring.proofs.square.moved.Tie as tie
+use Rattle.ring.proofs.positions.moved.Statement.{statement}
+use Rattle.ring.proofs.positions.moved.Tie as tie
 
 returns : tie.Need-returns
 returns c = sym (mod-eq-of-lt (c .if1 .taken))
