@@ -17,7 +17,7 @@ use Rattle.ring.proofs.little_endian.Laws.{bytes-below}
 use Rattle.exchange.specs.Scheme.{twoBytes}
 use Rattle.exchange.proofs.Making.{numbers-back, length-twoBytes, two-at}
 use Rattle.packing.specs.Packing.{rowOf, inRow}
-use Rattle.packing.proofs.Rows.{rowOf-in, inRow-length, inRow-below}
+use Rattle.packing.proofs.Rows.{rowOf-in}
 
 -- the number of two bytes, bit by bit
 two-bits : (bytes : List ℕ) → Below 8 bytes → (i : ℕ) → littleEndian (take 2 (drop (2 * i) bytes)) ≡ number 16 (λ e. bits 8 bytes (i * 16 + e))

@@ -1,0 +1,4 @@
+pub mod Judged
+pub mod Keys
+pub mod Positions
+pub mod Same
