@@ -11,7 +11,7 @@ use Rattle.ring.specs.Polynomials.{Poly, both, add, mul, power, weight, firstBe
 use Rattle.ring.proofs.Ring
 use Rattle.ring.proofs.Rotations.{weight-turn, weight-turned}
 use Rattle.ring.proofs.Weights.{weight-ext}
-use Rattle.exchange.specs.decoder.Decoder.{Decoder, Pair, counter, residual, nothing, passing, reaching, flipped, among, without, boundOf, threshold, black, gray, round, maskedStep, step, after, bgf, failed, found}
+use Rattle.exchange.specs.decoder.Decoder.{Decoder, Pair, counter, residual, nothing, passing, reaching, flipped, among, boundOf, threshold, black, gray, round, maskedStep, step, after, bgf, failed, found}
 use Rattle.exchange.specs.decoder.Stopping.{gone, fewest}
 use Rattle.exchange.proofs.decoder.Laws.{pair-path}
 

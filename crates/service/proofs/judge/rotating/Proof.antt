@@ -1,5 +1,7 @@
 -- `rotating` goes down the column of rotating.
 use mathlib.Core.Path.{_≡_, _∙_}
+use Prim.Native.Nat.{_≤_, _<_}
+use native.Mathlib.Omega.{arith}
 use borrow.Author.Needs.{needs}
 use borrow.Author.Tests.{le-leb, lt-leb}
 use Rattle.hashing.specs.Answers.{differs, firstOf}
@@ -51,6 +53,8 @@ returns-4 c =
     let good = c .before .before in
     let long = good .before .before .before in
     let level = long .before .before in
+    let start = level .before .before .before in
+    let past : levelOf (start .args .level) .r ≤ start .args .k = omega (arith, c .if4 .taken, c .before .block .ensures) in
     rw (
       ← level .before .known .ensures,
       level .if1 .left,
@@ -58,8 +62,7 @@ returns-4 c =
       long .if2 .left,
       ← good-is (good .before),
       good .if3 .left,
-      ← c .before .block .ensures,
-      le-leb _ _ (c .if4 .taken),
+      le-leb _ _ past,
     )
 
 returns-5 : tie.Need-returns-5
@@ -68,6 +71,8 @@ returns-5 c =
     let good = c .before .before in
     let long = good .before .before .before in
     let level = long .before .before in
+    let start = level .before .before .before in
+    let within : start .args .k < levelOf (start .args .level) .r = omega (arith, c .if4 .left, c .before .block .ensures) in
     rw (
       ← level .before .known .ensures,
       level .if1 .left,
@@ -75,8 +80,7 @@ returns-5 c =
       long .if2 .left,
       ← good-is (good .before),
       good .if3 .left,
-      ← c .before .block .ensures,
-      lt-leb _ _ (c .if4 .left),
+      lt-leb _ _ within,
     )
 
 pub rotating-spec : {M : Type 1} → statement M

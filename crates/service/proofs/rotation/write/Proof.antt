@@ -45,8 +45,9 @@ turned-requires c κs =
     let few = sizes (start .args .level) in
     let long = length-take-le (read .before .key-weight .result) (read .read-key .result .h0) (room read .0) in
     let weight = read .before .key-weight .ensures in
+    let within = judged start .within in
     rw (read .before .before .block .ensures)
-    ((judged start .within, r-small (start .args .level), omega arith), rw (list0 read) (Keys.half0 (start .args .level) (start .args .private-key .now) (judged start .goodPositions) .inside))
+    ((omega arith, r-small (start .args .level), omega arith), rw (list0 read) (Keys.half0 (start .args .level) (start .args .private-key .now) (judged start .goodPositions) .inside))
 
 turned-requires-2 : tie.Need-turned-requires-2
 unfolding secret
@@ -56,8 +57,9 @@ turned-requires-2 c κs =
     let few = sizes (start .args .level) in
     let long = length-take-le (read .before .key-weight .result) (read .read-key .result .h1) (room read .1) in
     let weight = read .before .key-weight .ensures in
+    let within = judged start .within in
     rw (read .before .before .block .ensures)
-    ((judged start .within, r-small (start .args .level), omega arith), rw (list1 read) (Keys.half1 (start .args .level) (start .args .private-key .now) (judged start .goodPositions) .inside))
+    ((omega arith, r-small (start .args .level), omega arith), rw (list1 read) (Keys.half1 (start .args .level) (start .args .private-key .now) (judged start .goodPositions) .inside))
 
 -- the words of each half
 words0 : (c : tie.After-turned) →
