@@ -7,6 +7,7 @@
 #include "keccak.h"
 #include "packing.h"
 #include "ring.h"
+#include "rotation.h"
 #include "scheme.h"
 #include "wrong.h"
 
@@ -497,4 +498,34 @@ uint32_t ref_unpack_key(uint32_t level, const uint8_t *packed, size_t packedn, u
 {
     const struct lent lent[] = {input(PACKED_KEY, packed, packedn), output(PRIVATE_KEY, key, keyn)};
     return enter(level, lent, 2, unpack);
+}
+
+/* Whether k is refused with 15. */
+static bool turn_too_far(const struct level *v, uint32_t k)
+{
+    return k >= v->r && !wrong(W_ROTATE_MODULO) && !(k == v->r && wrong(W_ROTATE_BY_R));
+}
+
+static void rotate(const struct level *v, uint32_t k, const struct lent lent[])
+{
+    struct key key = key_lent(v, &lent[0]), out = key_rotated(v, &key, k % v->r);
+    struct poly h;
+    if (wrong(W_ROTATE_OWN_D) && key_public(v, &out, &h)) {
+        uint8_t pub[POLYNOMIAL_MAX];
+        poly_to_bytes(&h, pub, polynomial_bytes(v));
+        hash_D(v, pub, out.digest);
+    }
+    key_to_bytes(v, &out, lent[1].out);
+}
+
+uint32_t ref_rotate_key(uint32_t level, uint32_t k, const uint8_t *key, size_t keyn, uint8_t *rotated, size_t rotatedn)
+{
+    const struct level *v = level_of(level);
+    const struct lent lent[] = {input(PRIVATE_KEY, key, keyn), output(PRIVATE_KEY, rotated, rotatedn)};
+    uint32_t answer = refusal(v, lent, 2);
+    if ((answer == 0 || (answer == 4 && wrong(W_ROTATE_15_FIRST))) && turn_too_far(v, k))
+        answer = 15;
+    if (answer == 0)
+        rotate(v, k, lent);
+    return finish(answer, v, lent, 2);
 }

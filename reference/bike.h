@@ -51,6 +51,9 @@ uint32_t ref_read_record(const uint8_t *bytes, size_t n, struct ref_record *reco
 uint32_t ref_pack_key(uint32_t level, const uint8_t *key, size_t keyn, uint8_t *packed, size_t packedn);
 uint32_t ref_unpack_key(uint32_t level, const uint8_t *packed, size_t packedn, uint8_t *key, size_t keyn);
 
+/* 15 k is not below r; it comes after 4. */
+uint32_t ref_rotate_key(uint32_t level, uint32_t k, const uint8_t *key, size_t keyn, uint8_t *rotated, size_t rotatedn);
+
 /* 11 the tag is not right; 12 the kart is another; 13 the counter is not above the last one. A refused acceptance
  * changes nothing. */
 uint32_t ref_map_write(uint32_t level, const uint8_t *key, size_t keyn, uint32_t kart, uint32_t counter,

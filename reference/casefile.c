@@ -15,7 +15,7 @@ static const struct {
     [MAKE_KEY] = {0, 1, 2, 4},        [WRAP] = {0, 2, 2, 0},        [OPEN] = {0, 2, 1, 0},
     [READ_RECORD] = {0, 1, 0, 3},     [PACK_KEY] = {0, 1, 1, 0},    [UNPACK_KEY] = {0, 1, 1, 0},
     [FAIR_POLYNOMIAL] = {0, 1, 1, 2}, [WRITE_MAP] = {2, 2, 1, 0},   [ACCEPT_MAP] = {2, 3, 0, 1},
-    [DECODE_EARLY] = {0, 2, 2, 1},
+    [DECODE_EARLY] = {0, 2, 2, 1},    [ROTATE_KEY] = {1, 1, 1, 0},
 };
 
 unsigned case_ins(uint32_t entry)
@@ -158,6 +158,7 @@ static uint32_t call(const struct test_case *c, uint8_t *const in[3], uint8_t *c
         numbers[0] = c->given[1];
         return ref_map_accept(c->level, a, an, c->given[0], b, bn, in[2], c->in[2].n, numbers);
     case DECODE_EARLY: return ref_decode_early(c->level, a, an, b, bn, x, xn, y, yn, numbers);
+    case ROTATE_KEY: return ref_rotate_key(c->level, c->given[0], a, an, x, xn);
     default: return read_record(a, an, numbers);
     }
 }

@@ -100,6 +100,7 @@ int main(int argc, char **argv)
         committed();
         committed_maps();
         committed_syndromes();
+        committed_rotations();
     } else {
         random_cases(argv[1], count);
     }

@@ -7,9 +7,10 @@
 /* Writes a case and the line that answers it. */
 void emit(const struct test_case *c);
 
-/* The fixed set of document 01, of the map write after it, and of more that is decoded after both. */
+/* The fixed set of document 01, of the map write after it, of more that is decoded after both, and of rotated keys. */
 void committed(void);
 void committed_maps(void);
 void committed_syndromes(void);
+void committed_rotations(void);
 
 #endif

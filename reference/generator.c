@@ -303,6 +303,14 @@ void case_unpack_key(struct test_case *c, const struct level *v, const struct ke
     c->out[0] = private_key_bytes(v);
 }
 
+void case_rotate_key(struct test_case *c, const struct level *v, const struct key *key, uint32_t k)
+{
+    start_case(c, ROTATE_KEY, v->number);
+    c->given[0] = k;
+    put_key(&c->in[0], v, key);
+    c->out[0] = private_key_bytes(v);
+}
+
 void case_record(struct test_case *c, struct source *g, uint32_t body, uint32_t kind, size_t n)
 {
     start_case(c, READ_RECORD, 0);
@@ -454,6 +462,7 @@ static void key_case(struct test_case *c, struct source *g, uint32_t entry, cons
     switch (entry) {
     case PACK_KEY: case_pack_key(c, v, &key); break;
     case UNPACK_KEY: case_unpack_key(c, v, &key); break;
+    case ROTATE_KEY: case_rotate_key(c, v, &key, source_below(g, v->r)); break;
     default: opening_case(c, g, v, &key, HONEST, 0); break;
     }
 }
@@ -536,7 +545,7 @@ void damage_pad(struct test_case *c, unsigned input, uint32_t bits)
 bool has_key(const struct test_case *c)
 {
     return c->entry == DECODE || c->entry == DECODE_EARLY || c->entry == OPEN || c->entry == PACK_KEY
-           || c->entry == UNPACK_KEY;
+           || c->entry == UNPACK_KEY || c->entry == ROTATE_KEY;
 }
 
 void set_position(struct test_case *c, int half, uint32_t index, uint32_t position)

@@ -61,6 +61,7 @@ void case_open(struct test_case *c, const struct level *v, const struct key *key
 void set_digest(struct test_case *c, const uint8_t *digest);
 void case_pack_key(struct test_case *c, const struct level *v, const struct key *key);
 void case_unpack_key(struct test_case *c, const struct level *v, const struct key *key);
+void case_rotate_key(struct test_case *c, const struct level *v, const struct key *key, uint32_t k);
 /* A record whose head says `body` and `kind`, followed by n random bytes. */
 void case_record(struct test_case *c, struct source *g, uint32_t body, uint32_t kind, size_t n);
 size_t thing_bytes(const struct level *v, uint32_t thing);

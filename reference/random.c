@@ -143,6 +143,15 @@ static void random_acceptance(struct test_case *c, struct source *g, const struc
         c->in[1].n = source_below(g, 302);
 }
 
+/* By k near an end of the circle, by any below r, or by any. */
+static void random_rotation(struct test_case *c, struct source *g, const struct level *v)
+{
+    struct key key = (source_below(g, 2) == 0 ? close_key : random_key)(g, v);
+    uint32_t ends[] = {0, 1, v->r - 1, v->r, v->r + 1, UINT32_MAX}, any = source_word(g);
+    uint32_t k = source_below(g, 4) == 0 ? ends[source_below(g, 6)] : source_below(g, v->r);
+    case_rotate_key(c, v, &key, source_below(g, 10) == 0 ? any : k);
+}
+
 static void damage_key(struct test_case *c, struct source *g)
 {
     const struct level *v = level_of(c->level);
@@ -187,6 +196,7 @@ void random_case_of(struct test_case *c, struct source *g, uint32_t entry)
     case READ_RECORD: random_record(c, g); break;
     case WRITE_MAP: random_writing(c, g, v); break;
     case ACCEPT_MAP: random_acceptance(c, g, v); break;
+    case ROTATE_KEY: random_rotation(c, g, v); break;
     default: ordinary_case(c, g, entry, v); break;
     }
     if (entry != READ_RECORD && source_below(g, 3) == 0)

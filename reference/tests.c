@@ -333,6 +333,42 @@ static void early_is_full(const struct level *v, uint32_t number)
     check(early.numbers[0] <= 5 && (early.answer == 0 || early.numbers[0] == 5), "at most 5 rounds, and 5 with 6");
 }
 
+/* The private key of a case, rotated by k in its place. */
+static void rotate_in(struct test_case *c, uint32_t k)
+{
+    static struct test_case rotation;
+    static struct result rotated;
+    const struct level *v = level_of(c->level);
+    struct key key = key_of_bytes(v, c->in[0].bytes);
+    case_rotate_key(&rotation, v, &key, k);
+    case_run(&rotation, &rotated);
+    memcpy(c->in[0].bytes, rotated.out[0].bytes, rotated.out[0].n);
+}
+
+/* Two rotations are one by their sum; the public key stays, and a ciphertext, damaged or not, opens to the same key. */
+static void rotations(const struct level *v, uint32_t number)
+{
+    static struct test_case one, two;
+    static struct result opened, again;
+    struct source g = source_of("rotations");
+    for (uint32_t i = 0; i < number; i++)
+        source_word(&g);
+    struct key key = random_key(&g, v);
+    struct poly h, turned;
+    uint32_t k = source_below(&g, v->r), l = source_below(&g, v->r);
+    opening_case(&one, &g, v, &key, (enum opening)(number % OPENINGS), 0);
+    case_run(&one, &opened);
+    two = one;
+    rotate_in(&two, k);
+    struct key rotated = key_of_bytes(v, two.in[0].bytes);
+    check(key_public(v, &key, &h) && key_public(v, &rotated, &turned) && poly_equal(&h, &turned), "one public key");
+    case_run(&two, &again);
+    check(case_same(&one, &opened, &again), "a rotated key opens to the same session key");
+    rotate_in(&two, l);
+    rotate_in(&one, (k + l) % v->r);
+    check(memcmp(one.in[0].bytes, two.in[0].bytes, one.in[0].n) == 0, "rotations by k and then l are one by k + l");
+}
+
 int main(int argc, char **argv)
 {
     if (argc == 2 && strcmp(argv[1], "--help") == 0) {
@@ -354,6 +390,8 @@ int main(int argc, char **argv)
             round_trip(level_of(level), number);
         for (uint32_t number = 0; number < 30; number++)
             early_is_full(level_of(level), number);
+        for (uint32_t number = 0; number < OPENINGS; number++)
+            rotations(level_of(level), number);
     }
     packed_keys(1, 313, 4);
     packed_keys(3, 451, 6);

@@ -157,7 +157,16 @@
     X(PRICE_SQUARINGS, "price of an inverse: squarings counted") \
     X(PRICE_FIRST_DIGIT, "price of an inverse: the highest digit counted") \
     X(PRICE_0_AFTER_5, "price of an inverse: 0 told after 5") \
-    X(PRICE_AFTER_3, "price of an inverse: the count told after 3")
+    X(PRICE_AFTER_3, "price of an inverse: the count told after 3") \
+    X(ROTATE_BACK, "rotating: each position goes back by k") \
+    X(ROTATE_ONE_HALF, "rotating: h0 alone is turned") \
+    X(ROTATE_UNSORTED, "rotating: positions stay in the old order") \
+    X(ROTATE_SIGMA, "rotating: sigma is turned too") \
+    X(ROTATE_D, "rotating: D is turned too") \
+    X(ROTATE_OWN_D, "rotating: D is worked out anew") \
+    X(ROTATE_15_FIRST, "rotating: 15 before 4") \
+    X(ROTATE_MODULO, "rotating: k is taken modulo r") \
+    X(ROTATE_BY_R, "rotating: k = r is taken")
 
 #define WRONG_NAME(name, text) W_##name,
 enum { W_NONE, WRONG_READINGS(WRONG_NAME) W_COUNT };
