@@ -8,7 +8,7 @@ use crate::words;
 use exchange::record::Reading;
 use exchange::record::Thing;
 
-// What stands before the buffers. An entry without numbers of its own has zeros for them.
+// What stands before the buffers, with zeros for the numbers that an entry has not.
 pub struct Case {
     pub ordinal: u64,
     pub number: u8,
@@ -17,11 +17,12 @@ pub struct Case {
     pub second: u32,
 }
 
-// Whether an entry has numbers: a kart number, and a counter.
-pub fn numbers(number: u8) -> bool {
+// How many numbers an entry has: a kart number and a counter, or how far a key is to be rotated.
+pub fn numbers(number: u8) -> u8 {
     match number {
-        14 | 15 => true,
-        _ => false,
+        14 | 15 => 2,
+        17 => 1,
+        _ => 0,
     }
 }
 
@@ -29,7 +30,7 @@ pub fn numbers(number: u8) -> bool {
 // read before.
 fn inputs(number: u8) -> u8 {
     match number {
-        1 | 2 | 4 | 5 | 7 | 10 | 11 | 12 | 13 => 1,
+        1 | 2 | 4 | 5 | 7 | 10 | 11 | 12 | 13 | 17 => 1,
         3 | 6 | 8 | 9 | 14 | 15 | 16 => 2,
         _ => 0,
     }
@@ -37,7 +38,7 @@ fn inputs(number: u8) -> u8 {
 
 fn outputs(number: u8) -> u8 {
     match number {
-        1 | 2 | 3 | 4 | 9 | 11 | 12 | 13 | 14 | 15 => 1,
+        1 | 2 | 3 | 4 | 9 | 11 | 12 | 13 | 14 | 15 | 17 => 1,
         5 | 6 | 7 | 8 | 16 => 2,
         _ => 0,
     }
@@ -132,7 +133,8 @@ fn called(case: Case, a: &[u8], b: &[u8], out0: &mut [u8], out1: &mut [u8]) -> S
         13 => fair_polynomial(level, a, out0),
         14 => silent(maps::write_map(level, a, case.first, case.second, b, out0)),
         15 => accept_map(case, a, b, out0),
-        _ => decode_early(level, a, b, out0, out1),
+        16 => decode_early(level, a, b, out0, out1),
+        _ => silent(service::rotate_key(level, case.first, a, out0)),
     }
 }
 

@@ -27,10 +27,10 @@ fn rest(ordinal: u64, number: u8) -> bool {
     let lines::Number::Is(level) = lines::read_number() else {
         return false;
     };
-    let lines::Number::Is(first) = number_in(entry::numbers(number)) else {
+    let lines::Number::Is(first) = number_in(entry::numbers(number) > 0) else {
         return false;
     };
-    let lines::Number::Is(second) = number_in(entry::numbers(number)) else {
+    let lines::Number::Is(second) = number_in(entry::numbers(number) == 2) else {
         return false;
     };
     entry::answered(entry::Case {
