@@ -1,4 +1,5 @@
--- Products by a power of X: they turn a polynomial round, keep its weight, add up, and take an inverse along. Assumes nothing.
+-- Products by a power of X: they turn a polynomial round, keep its weight, add up, and take an inverse along.
+-- Assumes nothing.
 use mathlib.Core.Path.{_≡_, refl, sym, ap, ap₂, _∙_, fun-ext}
 use mathlib.Core.Bool.{Bool, true, false, _||_, true≢false}
 use mathlib.Core.List.{List, [], _∷_, map}
@@ -64,7 +65,7 @@ module _ (r : ℕ) (pos : 0 < r) where
       ∙ Ring.over-power r pos j (λ n. power r (i % r + n) k)
       ∙ Ring.power-cong r (i % r + j % r) (i + j) (mod-add-mod i r (j % r) ∙ add-mod-mod i j r) k)
 
-  pub power-mod : (i : ℕ) → power r (i % r) ≡ power r i
+  power-mod : (i : ℕ) → power r (i % r) ≡ power r i
   power-mod i = fun-ext (λ k. Ring.power-cong r (i % r) i (mod-mod i r) k)
 
   pub turned-turned : (k l : ℕ) (a : Poly) → mul r (power r l) (mul r (power r k) a) ≡ mul r (power r ((k + l) % r)) a

@@ -1,5 +1,5 @@
-// The exponents of a polynomial, in rising order, and one of them moved on round the circle. The weight gives the number
-// of turns of the first, so that what runs does not tell where they lie.
+// The exponents of a polynomial, in rising order: its weight gives the number of turns, so that what runs does not tell
+// where they lie. And one of them moved on round the circle.
 use crate::size::MOST_D;
 use crate::size::WORDS;
 ghost use mathlib.Core.Path.{_≡_};

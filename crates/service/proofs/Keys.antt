@@ -1,4 +1,5 @@
--- A rotated key, read again: its halves are turned, its tail stands, and it is as long and as good as the key. Assumes nothing.
+-- A rotated key, read again: its halves are turned, its tail stands, and it is as long and as good as the key.
+-- Assumes nothing.
 use mathlib.Core.Path.{_≡_, sym, ap, ap₂, _∙_}
 use mathlib.Core.Bool.{true}
 use mathlib.Core.List.{List, _++_}

@@ -1,5 +1,5 @@
--- Both halves of a key and a syndrome times one power of X: whatever a round looks at stays as it was, so a decoder does what it did.
--- Assumes nothing.
+-- Both halves of a key and a syndrome times one power of X: whatever a round looks at stays as it was, so a decoder
+-- does what it did. Assumes nothing.
 use mathlib.Core.Path.{_≡_, refl, sym, ap, ap₂, _∙_, fun-ext}
 use mathlib.Core.Bool.{Bool, true, false, _&&_}
 use Prim.Native.Nat.{ℕ, zero, suc, _+_, _-_, _%_, _<_}
