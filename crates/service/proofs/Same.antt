@@ -14,9 +14,8 @@ use Rattle.hashing.proofs.Answers.{done, settled, one-output}
 use Rattle.ring.specs.Bytes.{bytesOf, padSet}
 use Rattle.ring.specs.Levels.{levelOf, polyBytes}
 use Rattle.ring.specs.Polynomials.{Poly, mul, power, hasInverse}
-use Rattle.ring.proofs.Invertible.{light-inverts}
 use Rattle.ring.proofs.Layouts.{Below, bits-bytesOf, bytesOf-length, bytesOf-pad}
-use Rattle.ring.proofs.Levels.{r-pos, sizes, d-odd}
+use Rattle.ring.proofs.Levels.{r-pos}
 use Rattle.ring.proofs.Ring.{mul-in, mul-comm, mul-assoc}
 use Rattle.ring.proofs.Rotations.{turned-has, turned-quotient}
 use Rattle.exchange.specs.decoder.Decoder.{Decoder, bgf, failed}
@@ -28,7 +27,7 @@ use Rattle.exchange.proofs.decoder.Rotations.{BlindDecoder, bgf-blind, failed-s
 use Rattle.exchange.specs.Scheme.{h0Of, h1Of, publicOf}
 use Rattle.exchange.proofs.Making.{secret-back}
 use Rattle.exchange.proofs.Pairs.{made-of}
-use Rattle.exchange.proofs.keys.Laws.{h0-half, h1-half}
+use Rattle.exchange.proofs.keys.Laws.{h0-half, h1-half, half-inverts}
 use Rattle.service.specs.Rotation.{turned, turnedPair, rotated, rotate-key-reasons, rotate-key-says, RotateKeyPromise, publicFor}
 use Rattle.service.proofs.Judged.{RotateClear, rotate-clear, rotate-none}
 use Rattle.service.proofs.Keys
@@ -67,10 +66,7 @@ module _ (level k : ℕ) (key key′ : List ℕ) (room : ℕ) (says : rotate-key
 
   -- and by CR 9 there is always one
   pub inverts : hasInverse (levelOf level .r) (secret (levelOf level) key .half0) ≡ true
-  inverts =
-      let half = Keys.half0 level key (is .goodPositions) in
-      let small = sizes level in
-      light-inverts level (half .inside) (ap (λ (w : ℕ). w % 2) (half .weighs) ∙ d-odd level) (omega (arith, half .weighs))
+  inverts = half-inverts level (Keys.half0 level key (is .goodPositions))
 
   pub same-public : publicFor (levelOf level) key′ ≡ publicFor (levelOf level) key
   unfolding publicFor turnedPair turned

@@ -59,13 +59,15 @@ module _ (l : Level) (seed : List ℕ) (enough : keyRanOut l seed ≡ false) whe
   unfolding keyRanOut h1Of h1Drawn
   h1-half = drawn-half l _ (both-false (ranOut (l .d) (h0Drawn l seed)) _ enough .1)
 
--- and h0 has an inverse: d is odd and below r
-pub h0-inverts : (level : ℕ) (seed : List ℕ) → keyRanOut (levelOf level) seed ≡ false
-    → hasInverse (levelOf level .r) (h0Of (levelOf level) seed) ≡ true
-h0-inverts level seed enough =
-    let half = h0-half (levelOf level) seed enough in
+-- such a half has an inverse: d is odd and below r
+pub half-inverts : (level : ℕ) {a : Poly} → Half (levelOf level .r) (levelOf level .d) a → hasInverse (levelOf level .r) a ≡ true
+half-inverts level half =
     let small = sizes level in
     light-inverts level (half .inside) (ap (λ (w : ℕ). w % 2) (half .weighs) ∙ d-odd level) (omega (arith, half .weighs))
+
+pub h0-inverts : (level : ℕ) (seed : List ℕ) → keyRanOut (levelOf level) seed ≡ false
+    → hasInverse (levelOf level .r) (h0Of (levelOf level) seed) ≡ true
+h0-inverts level seed enough = half-inverts level (h0-half (levelOf level) seed enough)
 
 pub keyDigest-length : (public : List ℕ) → length (keyDigest public) ≡ messageBytes
 unfolding keyDigest
