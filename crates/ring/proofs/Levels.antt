@@ -1,7 +1,8 @@
 -- Facts of every level: one test of a row, computed over the whole table, and what follows from it. Assumes nothing.
 use mathlib.Core.Path.{_≡_, refl}
-use mathlib.Core.Bool.{Bool, true, false, _&&_}
+use mathlib.Core.Bool.{Bool, true, false, _&&_, false≢true}
 use mathlib.Core.List.{List, [], _∷_, map}
+use mathlib.Core.Logic.{⊎-elim}
 use Prim.Native.Nat.{ℕ, zero, suc, _+_, _-_, _*_, _/_, _%_, _^_, _≤_, _<_}
 use native.Mathlib.Nat.{mul-le-mul-left, div-lt-iff-lt-mul}
 use native.Mathlib.Omega.{arith}
@@ -12,9 +13,9 @@ use Rattle.hashing.specs.Lists.{bitAt}
 use Rattle.ring.specs.Chain.{doubled, longer, climb, digits, halvings, top, climbed, chainProducts}
 use Rattle.ring.specs.inner.Sizes.{mostD, mostT, wordBits}
 use Rattle.ring.specs.Invertible.{RunsThrough}
-use Rattle.ring.specs.Polynomials.{Poly}
-use Rattle.ring.specs.Levels.{Level, level1, level3, table, rowIn, levelOf, polyBytes, polyWords, padBits, positionBits, ciphertextBytes, privateBytes, masked}
-use Rattle.ring.proofs.Bools.{both-true}
+use Rattle.ring.specs.Polynomials.{Poly, listed}
+use Rattle.ring.specs.Levels.{Level, level1, level3, level5, table, known, rowIn, levelOf, polyBytes, polyWords, padBits, positionBits, ciphertextBytes, privateBytes, masked}
+use Rattle.ring.proofs.Bools.{both-true, one-true}
 use Rattle.ring.proofs.Walks.{walk, walk-runs}
 
 -- the sizes of a row, for the code that adds and multiplies them
@@ -99,7 +100,7 @@ fits-facts l e =
 
 -- the whole table, and with it the row of every number
 table-fits : every (map fits table) ≡ true
-unfolding every fits tests table level1 level3 top halvings walk
+unfolding every fits tests table level1 level3 level5 top halvings walk
 table-fits = refl
 
 row-fits : (rows : List Level) (level : ℕ) → every (map fits rows) ≡ true → fits level1 ≡ true → fits (rowIn rows level) ≡ true
@@ -157,6 +158,21 @@ bounds level s few =
       most = at-r .most;
     }
 
+-- a known level's number takes one byte
+total : List ℕ → ℕ
+total [] = 0
+total (x ∷ xs) = x + total xs
+
+listed-total : (x : ℕ) (xs : List ℕ) → listed x xs ≡ true → x ≤ total xs
+unfolding listed total
+listed-total x [] e = absurd (false≢true e)
+listed-total x (y ∷ xs) e =
+    ⊎-elim (λ here. omega (arith, eqb-true x y here)) (λ later. omega (arith, listed-total x xs later)) (one-true (eqb x y) (listed x xs) e)
+
+pub level-small : (level : ℕ) → known level ≡ true → level < 256
+unfolding known table level1 level3 level5 total
+level-small level e = omega (arith, listed-total level (map (λ (l : Level). l .number) table) e)
+
 -- the table's other numbers: bytes of a polynomial, its words, its pad bits, bytes of a ciphertext and of a private key, the masked
 -- bound, and the place of the highest digit of r - 2 in the chain of the inverse
 pub computed : Level → List ℕ
@@ -170,7 +186,11 @@ pub computed3 : computed level3 ≡ 3083 ∷ 386 ∷ 5 ∷ 3115 ∷ 476 ∷ 53 �
 unfolding computed level3 top halvings
 computed3 = refl
 
+pub computed5 : computed level5 ≡ 5122 ∷ 641 ∷ 3 ∷ 5154 ∷ 612 ∷ 70 ∷ 15 ∷ []
+unfolding computed level5 top halvings
+computed5 = refl
+
 -- the price of an inverse in full products, whatever the polynomial: its value is never looked at
-pub chain-price : (a : Poly) → (chainProducts (level1 .r) a ≡ 16) × (chainProducts (level3 .r) a ≡ 18)
-unfolding level1 level3 chainProducts climbed climb digits doubled longer top halvings bitAt
-chain-price a = (refl, refl)
+pub chain-price : (a : Poly) → (chainProducts (level1 .r) a ≡ 16) × (chainProducts (level3 .r) a ≡ 18) × (chainProducts (level5 .r) a ≡ 19)
+unfolding level1 level3 level5 chainProducts climbed climb digits doubled longer top halvings bitAt
+chain-price a = (refl, refl, refl)

@@ -1,4 +1,4 @@
--- "Numbers of the two levels": a row for each level, and all that follows from a row. Assumes nothing.
+-- "Numbers of the two levels", and of CR 12's third: a row for each level, and all that follows from a row. Assumes nothing.
 use mathlib.Core.Bool.{Bool, true, false}
 use mathlib.Core.List.{List, [], _∷_, map}
 use Prim.Native.Nat.{ℕ, suc, _+_, _*_, _-_, _/_}
@@ -27,10 +27,15 @@ unfoldable pub level3 : Level
 level3 =
     record { number = 3; r = 24659; d = 103; t = 199; slope = 52650; offset = 152588000; divisor = 10000000; least = 52 }
 
-unfoldable pub table : List Level
-table = level1 ∷ level3 ∷ []
+-- CR 12: "r = 40973, d = 137 (source 003), t = 264", and its threshold
+unfoldable pub level5 : Level
+level5 =
+    record { number = 5; r = 40973; d = 137; t = 264; slope = 402312; offset = 1587850000; divisor = 100000000; least = 69 }
 
--- "level is neither 1 nor 3" is `known` false
+unfoldable pub table : List Level
+table = level1 ∷ level3 ∷ level5 ∷ []
+
+-- CR 12: "a level other than 1, 3 and 5" is `known` false
 unfoldable pub known : ℕ → Bool
 known level = listed level (map (λ (l : Level). l .number) table)
 

@@ -1,4 +1,4 @@
-// "Numbers of the two levels": a row for each level.
+// "Numbers of the two levels", and of CR 12's third: a row for each level.
 ghost use mathlib.Core.Path.{_≡_};
 ghost use Rattle.ring.specs.Levels;
 ghost use Rattle.ring.specs.Levels.{levelOf};
@@ -18,13 +18,25 @@ pub struct Level {
 pub fn known(level: u32) -> bool
     ensures { λ t. ⌜ t ≡ Levels.known level ⌝ }
 {
-    level == 1 || level == 3
+    (level == 1) | (level == 3) | (level == 5)
 }
 
 // The row of a level; that of the first where the level is unknown.
 pub fn level_of(level: u32) -> Level
     ensures { λ l. ⌜ row l ≡ levelOf level ⌝ }
 {
+    if level == 5 {
+        return Level {
+            number: 5,
+            r: 40973,
+            d: 137,
+            t: 264,
+            slope: 402312,
+            offset: 1587850000,
+            divisor: 100000000,
+            least: 69,
+        };
+    }
     if level == 3 {
         return Level {
             number: 3,

@@ -1,4 +1,4 @@
-// The dense product: Karatsuba's way of three products of half the length, down to leaves of 49 words, which are
+// The dense product: Karatsuba's way of three products of half the length, down to leaves of 49 or 42 words, which are
 // multiplied by a comb with windows of 5 bits. The comb's table has the 32 multiples u·b of one factor; for each
 // window, from the highest down, the sum so far is shifted by 5 and the rows that the window picks by the other
 // factor's words are added, seven rows a pass. One table is made for a product and lent to all its leaves.
@@ -8,22 +8,29 @@ ghost use lib.ListN.{length, getD, take, drop, replicate};
 ghost use Rattle.hashing.specs.Lists.{tab, bitAt, bits};
 ghost use Rattle.ring.specs.Polynomials;
 ghost use Rattle.ring.specs.Polynomials.{Poly, InRing, flip, parity, mul};
-ghost use Rattle.ring.specs.inner.Wide.{shifted, wide, Away, Outside, Clear, Multiples, start};
-ghost use Rattle.ring.specs.inner.Sizes.{words, wordBits, leafWords, rowWords, tableWords, firstRow, factorWords, wideWords};
+ghost use Rattle.ring.specs.inner.Wide.{shifted, wide, Away, Outside, Clear, Multiples, Leaf, start};
+ghost use Rattle.ring.specs.inner.Sizes.{words, wordBits, leafWords, rowWords, tableWords, firstRow, halfWords, factorWords, wideWords};
 use crate::frame::cut;
 use crate::frame::zeros;
 use crate::size::WORDS;
 use crate::words::funnel;
 use crate::words::place;
 
-// The words of a leaf, seven for each pass of the comb; of its product; of the longest factor and half of it.
+// The words of a leaf, seven for each pass of the comb, and of its product.
 const LEAF: usize = 49;
 
 const LEAF_WIDE: usize = 2 * LEAF;
 
-pub const FACTOR: usize = 8 * LEAF;
+const SHORT_LEAF: usize = 42;
 
-const HALF: usize = 4 * LEAF;
+// The factors of Levels 1 and 3; the longest, and half of it.
+const FACTOR_1: usize = 4 * LEAF;
+
+const FACTOR_3: usize = 8 * LEAF;
+
+pub const FACTOR: usize = 16 * SHORT_LEAF;
+
+const HALF: usize = 8 * SHORT_LEAF;
 
 // Room for a product before it is reduced.
 pub const WIDE: usize = 2 * FACTOR;
@@ -186,6 +193,18 @@ fn leaf(a: &[u64], b: &[u64], c: &mut [u64], t: &mut [u64], n: usize)
     place(c, &x[..2 * n], 0);
 }
 
+// The same, with the number of words written out: the loops of a leaf have fixed ends.
+fn fixed_leaf(a: &[u64], b: &[u64], c: &mut [u64], t: &mut [u64], n: usize)
+    requires { ⌜ Leaf n × (length (now a) ≡ n) × (length (now b) ≡ n) × (length (now c) ≡ 2 * n) × Clear n (now t) ⌝ }
+    ensures { λ _. ⌜ Clear n (now (t .exit)) × (bits 64 (now (c .exit)) ≡ wide (64 * n) (bits 64 (now (a .entry))) (bits 64 (now (b .entry)))) ⌝ }
+{
+    if n == 42 {
+        leaf(a, b, c, t, 42);
+        return;
+    }
+    leaf(a, b, c, t, 49);
+}
+
 // m is added to c, from word `at` on.
 fn add(c: &mut [u64], at: usize, m: &[u64])
     requires { ⌜ at + length (now m) ≤ length (now c) ⌝ }
@@ -209,30 +228,30 @@ fn add_halves(s: &mut [u64], a: &[u64], h: usize)
 }
 
 // The product of the low halves, and above it that of the high ones.
-fn outer(a: &[u64], b: &[u64], c: &mut [u64], t: &mut [u64], h: usize, depth: usize)
-    requires { ⌜ (depth < 3) × (h ≡ leafWords * 2 ^ depth) × (length (now a) ≡ 2 * h) × (length (now b) ≡ 2 * h) × (length (now c) ≡ 4 * h)
-        × Clear leafWords (now t) ⌝ }
-    ensures { λ _. ⌜ Clear leafWords (now (t .exit))
+fn outer(a: &[u64], b: &[u64], c: &mut [u64], t: &mut [u64], h: usize, depth: usize, n: usize)
+    requires { ⌜ Leaf n × (2 * h ≤ factorWords) × (h ≡ n * 2 ^ depth) × (length (now a) ≡ 2 * h) × (length (now b) ≡ 2 * h)
+        × (length (now c) ≡ 4 * h) × Clear n (now t) ⌝ }
+    ensures { λ _. ⌜ Clear n (now (t .exit))
         × (bits 64 (take (2 * h) (now (c .exit))) ≡ wide (64 * h) (bits 64 (take h (now (a .entry)))) (bits 64 (take h (now (b .entry)))))
         × (bits 64 (drop (2 * h) (now (c .exit))) ≡ wide (64 * h) (bits 64 (drop h (now (a .entry)))) (bits 64 (drop h (now (b .entry))))) ⌝ }
 {
-    let n = 2 * h;
-    karatsuba(&a[..h], &b[..h], &mut c[..n], t, depth);
-    karatsuba(&a[h..], &b[h..], &mut c[n..], t, depth);
+    let m = 2 * h;
+    karatsuba(&a[..h], &b[..h], &mut c[..m], t, depth, n);
+    karatsuba(&a[h..], &b[h..], &mut c[m..], t, depth, n);
 }
 
 // 0, with room for half of a factor.
 fn half_zeros() -> [u64; HALF]
-    ensures { λ x. ⌜ x ≡ replicate (4 * leafWords) 0 ⌝ }
+    ensures { λ x. ⌜ x ≡ replicate halfWords 0 ⌝ }
 {
     [0u64; HALF]
 }
 
 // The product of the sums of the halves, in the front of m.
-fn middle(a: &[u64], b: &[u64], m: &mut [u64], t: &mut [u64], h: usize, depth: usize)
-    requires { ⌜ (depth < 3) × (h ≡ leafWords * 2 ^ depth) × (length (now a) ≡ 2 * h) × (length (now b) ≡ 2 * h) × (2 * h ≤ length (now m))
-        × Clear leafWords (now t) ⌝ }
-    ensures { λ _. ⌜ Clear leafWords (now (t .exit)) × (bits 64 (take (2 * h) (now (m .exit)))
+fn middle(a: &[u64], b: &[u64], m: &mut [u64], t: &mut [u64], h: usize, depth: usize, n: usize)
+    requires { ⌜ Leaf n × (2 * h ≤ factorWords) × (h ≡ n * 2 ^ depth) × (length (now a) ≡ 2 * h) × (length (now b) ≡ 2 * h)
+        × (2 * h ≤ length (now m)) × Clear n (now t) ⌝ }
+    ensures { λ _. ⌜ Clear n (now (t .exit)) × (bits 64 (take (2 * h) (now (m .exit)))
         ≡ wide (64 * h) (Polynomials.add (bits 64 (take h (now (a .entry)))) (bits 64 (drop h (now (a .entry)))))
         (Polynomials.add (bits 64 (take h (now (b .entry)))) (bits 64 (drop h (now (b .entry)))))) ⌝ }
 {
@@ -240,8 +259,8 @@ fn middle(a: &[u64], b: &[u64], m: &mut [u64], t: &mut [u64], h: usize, depth: u
     add_halves(&mut x, a, h);
     let mut y = half_zeros();
     add_halves(&mut y, b, h);
-    let n = 2 * h;
-    karatsuba(&x[..h], &y[..h], &mut m[..n], t, depth);
+    let twice = 2 * h;
+    karatsuba(&x[..h], &y[..h], &mut m[..twice], t, depth, n);
 }
 
 // c has two products of 2·h words, one above the other: both of them are added to m, and m is added half-way.
@@ -263,21 +282,21 @@ fn factor_zeros() -> [u64; FACTOR]
     [0u64; FACTOR]
 }
 
-// The product of two factors of 49·2^depth words.
-fn karatsuba(a: &[u64], b: &[u64], c: &mut [u64], t: &mut [u64], depth: usize)
-    requires { ⌜ (depth < 4) × (length (now a) ≡ leafWords * 2 ^ depth) × (length (now b) ≡ leafWords * 2 ^ depth)
-        × (length (now c) ≡ 2 * (leafWords * 2 ^ depth)) × Clear leafWords (now t) ⌝ }
-    ensures { λ _. ⌜ Clear leafWords (now (t .exit)) × (bits 64 (now (c .exit))
+// The product of two factors of n·2^depth words, n those of a leaf.
+fn karatsuba(a: &[u64], b: &[u64], c: &mut [u64], t: &mut [u64], depth: usize, n: usize)
+    requires { ⌜ Leaf n × (n * 2 ^ depth ≤ factorWords) × (length (now a) ≡ n * 2 ^ depth) × (length (now b) ≡ n * 2 ^ depth)
+        × (length (now c) ≡ 2 * (n * 2 ^ depth)) × Clear n (now t) ⌝ }
+    ensures { λ _. ⌜ Clear n (now (t .exit)) × (bits 64 (now (c .exit))
         ≡ wide (64 * length (now (a .entry))) (bits 64 (now (a .entry))) (bits 64 (now (b .entry)))) ⌝ }
 {
     if depth == 0 {
-        leaf(a, b, c, t, 49);
+        fixed_leaf(a, b, c, t, n);
         return;
     }
     let h = a.len() / 2;
-    outer(a, b, c, t, h, depth - 1);
+    outer(a, b, c, t, h, depth - 1, n);
     let mut m = factor_zeros();
-    middle(a, b, &mut m, t, h, depth - 1);
+    middle(a, b, &mut m, t, h, depth - 1, n);
     join(c, &mut m, h);
 }
 
@@ -297,23 +316,37 @@ pub fn padded(a: [u64; WORDS]) -> [u64; FACTOR]
     p
 }
 
-// How often a factor of n words is halved.
-fn depth_of(n: usize) -> usize
-    requires { ⌜ n ≤ words ⌝ }
-    ensures { λ d. ⌜ (d < 4) × (n ≤ leafWords * 2 ^ d) ⌝ }
-{
-    if n <= HALF {
-        return 2;
-    }
-    3
+// How a factor is halved down to leaves: a leaf's words, how often, and the words of all.
+struct Split {
+    leaf: usize,
+    depth: usize,
+    words: usize,
 }
 
-// The words of a factor that is halved so often.
-fn length_of(depth: usize) -> usize
-    requires { ⌜ depth < 4 ⌝ }
-    ensures { λ n. ⌜ n ≡ leafWords * 2 ^ depth ⌝ }
+// That of a factor of n words.
+fn split_of(n: usize) -> Split
+    requires { ⌜ n ≤ words ⌝ }
+    ensures { λ s. ⌜ Leaf (s .leaf) × (s .words ≡ s .leaf * 2 ^ s .depth) × (n ≤ s .words) × (s .words ≤ factorWords) ⌝ }
 {
-    LEAF << depth
+    if n <= FACTOR_1 {
+        return Split {
+            leaf: LEAF,
+            depth: 2,
+            words: FACTOR_1,
+        };
+    }
+    if n <= FACTOR_3 {
+        return Split {
+            leaf: LEAF,
+            depth: 3,
+            words: FACTOR_3,
+        };
+    }
+    Split {
+        leaf: SHORT_LEAF,
+        depth: 4,
+        words: FACTOR,
+    }
 }
 
 // The product of two polynomials of n words, before reduction.
@@ -321,13 +354,20 @@ fn wide_product(a: [u64; WORDS], b: [u64; WORDS], n: usize) -> [u64; WIDE]
     requires { ⌜ (n ≤ words) × (InRing (64 * n) (bits 64 a)) × (InRing (64 * n) (bits 64 b)) ⌝ }
     ensures { λ x. ⌜ ((k : ℕ) → k < 128 * n → bits 64 x k ≡ wide (64 * n) (bits 64 a) (bits 64 b) k) ⌝ }
 {
-    let depth = depth_of(n);
-    let long = length_of(depth);
+    let split = split_of(n);
+    let long = split.words;
     let pa = padded(a);
     let pb = padded(b);
     let mut c = wide_zeros();
     let mut t = blank();
-    karatsuba(&pa[..long], &pb[..long], &mut c[..2 * long], &mut t, depth);
+    karatsuba(
+        &pa[..long],
+        &pb[..long],
+        &mut c[..2 * long],
+        &mut t,
+        split.depth,
+        split.leaf,
+    );
     c
 }
 

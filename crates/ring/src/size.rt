@@ -6,11 +6,11 @@ ghost use Rattle.ring.specs.Levels.{levelOf, polyBytes, positionBits, ci
 
 // The largest sizes of the table: a polynomial's words of 64 bits, the weight of a half of a private key, that of an
 // error.
-pub const WORDS: usize = 386;
+pub const WORDS: usize = 641;
 
-pub const MOST_D: usize = 103;
+pub const MOST_D: usize = 137;
 
-pub const MOST_T: usize = 199;
+pub const MOST_T: usize = 264;
 
 pub const MESSAGE: usize = 32;
 

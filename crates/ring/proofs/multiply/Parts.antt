@@ -3,7 +3,7 @@ use mathlib.Core.Path.{_≡_, sym, ap, ap₂, _∙_, fun-ext}
 use mathlib.Core.Bool.{Bool, false}
 use mathlib.Core.List.{List, _++_, append-nil}
 use Prim.Native.Nat.{ℕ, zero, _+_, _-_, _*_, _/_, _%_, _^_, _≤_, _<_}
-use native.Mathlib.Nat.{mul-comm}
+use native.Mathlib.Nat.{mul-comm, mul-assoc}
 use native.Mathlib.Decide.{decLt}
 use native.Mathlib.Omega.{arith}
 use borrow.Rule.Slice.PartMut.{putMid, take-put}
@@ -116,9 +116,10 @@ leaf-product n b x c A long twice room copied product =
 
 -- ---- halves
 
-pub power-twice : (d : ℕ) → zero < d → 2 ^ d ≡ 2 * 2 ^ (d - 1)
-power-twice d pos =
-    let back : d ≡ d - 1 + 1 = omega arith in ap (_^_ 2) back ∙ pow-add 2 (d - 1) 1 ∙ mul-comm (2 ^ (d - 1)) 2
+pub power-twice : (n d : ℕ) → zero < d → n * 2 ^ d ≡ 2 * (n * 2 ^ (d - 1))
+power-twice n d pos =
+    let back : d ≡ d - 1 + 1 = omega arith in
+    ap (λ (d : ℕ). n * 2 ^ d) back ∙ ap (_*_ n) (pow-add 2 (d - 1) 1) ∙ sym (mul-assoc n (2 ^ (d - 1)) 2) ∙ mul-comm (n * 2 ^ (d - 1)) 2
 
 -- the two halves of a are added to s
 pub halves-added : (h : ℕ) (a s x y : List ℕ) → bits 64 x ≡ add (bits 64 s) (shifted 0 (bits 64 (take h a)))

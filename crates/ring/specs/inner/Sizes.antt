@@ -5,13 +5,13 @@ use Rattle.ring.specs.Levels.{messageBytes, tailBytes}
 
 -- words of 64 bits for a polynomial, weight of a half of a private key, weight of an error
 abbrev pub words : ℕ
-words = 386
+words = 641
 
 abbrev pub mostD : ℕ
-mostD = 103
+mostD = 137
 
 abbrev pub mostT : ℕ
-mostT = 199
+mostT = 264
 
 -- the bits and the bytes of these words
 abbrev pub wordBits : ℕ
@@ -32,13 +32,20 @@ windowWords = 3 * words + 1
 abbrev pub mostStarts : ℕ
 mostStarts = 8 * ((mostT + 7) / 8)
 
--- The dense product: the words of a leaf, of the longest factor and of its product before it is reduced. A row of the
--- comb's table has one word more than a leaf, after 6 words of 0 and before at least 6; where row 1 has the leaf itself.
+-- The dense product: the words of the longer leaf and of the shorter, of half of the longest factor, of it, and of its product before
+-- it is reduced. A row of the comb's table has one word more than a leaf, after 6 words of 0 and before at least 6; where row 1 has the
+-- leaf itself.
 abbrev pub leafWords : ℕ
 leafWords = 49
 
+abbrev pub shortWords : ℕ
+shortWords = 42
+
+abbrev pub halfWords : ℕ
+halfWords = 8 * shortWords
+
 abbrev pub factorWords : ℕ
-factorWords = 8 * leafWords
+factorWords = 2 * halfWords
 
 abbrev pub wideWords : ℕ
 wideWords = 2 * factorWords

@@ -8,7 +8,7 @@ use lib.Dec.{leb}
 use lib.ListN.{length, getD}
 use Rattle.hashing.specs.Lists.{bitAt, bits}
 use Rattle.ring.specs.Polynomials.{Poly, both, over}
-use Rattle.ring.specs.inner.Sizes.{rowWords, tableWords}
+use Rattle.ring.specs.inner.Sizes.{leafWords, shortWords, rowWords, tableWords}
 
 -- X^m times b
 unfoldable pub shifted : ℕ → Poly → Poly
@@ -38,3 +38,7 @@ Multiples b n t = (u k : ℕ) → u < n → k < 64 * rowWords → bits 64 t (64 
 -- Where in the table the row starts that the window at bit w picks for word j + m of a, moved up by m words.
 abbrev pub start : List ℕ → ℕ → ℕ → ℕ → ℕ
 start a w j m = rowWords * (getD a (j + m) 0 / 2 ^ w % 32) + (6 - m)
+
+-- the words of a leaf of the dense product
+abbrev pub Leaf : ℕ → Type 0
+Leaf n = (n ≡ shortWords) ⊎ (n ≡ leafWords)

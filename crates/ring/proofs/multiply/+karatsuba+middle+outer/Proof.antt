@@ -3,6 +3,7 @@
 use mathlib.Core.Path.{_≡_, refl, sym, ap, ap₂, _∙_}
 use mathlib.Core.List.{List, _++_}
 use Prim.Native.Nat.{ℕ, _+_, _-_, _*_, _/_, _^_, _≤_, _<_}
+use native.Mathlib.Nat.{mul-one}
 use native.Mathlib.Omega.{arith}
 use borrow.Author.Needs.{needs}
 use borrow.Fn.Kinds.{In}
@@ -10,11 +11,10 @@ use borrow.Fn.PlainCycle.{Measures, is, falls, and}
 use borrow.Rule.Slice.PartMut.{same-len-mid}
 use lib.Dec.{lit≤}
 use lib.ListN.{length, take, drop, replicate, length-replicate}
-use lib.Pow.{pow-mono}
 use lib.Seq.{length-take-le, length-front}
 use Rattle.hashing.specs.Lists.{bits}
 use Rattle.ring.specs.inner.Wide.{wide}
-use Rattle.ring.specs.inner.Sizes.{leafWords, factorWords}
+use Rattle.ring.specs.inner.Sizes.{halfWords, factorWords}
 use Rattle.ring.proofs.multiply.Parts.{rest, front-long, back-long, rest-long, replaced-long, both-back, front-is, halves-sum, power-twice, halves-product}
 use Rattle.ring.proofs.multiply.karatsuba.Reads as karatsuba
 use Rattle.ring.proofs.multiply.karatsuba.Kinds as karatsuba-kinds
@@ -29,7 +29,7 @@ use Rattle.ring.proofs.multiply.add_halves.Reads as add-halves-reads
 use Rattle.ring.proofs.multiply.half_zeros.Reads as half-zeros-reads
 use Rattle.ring.proofs.multiply.factor_zeros.Reads as factor-zeros-reads
 use Rattle.ring.proofs.multiply.join.Reads as join-reads
-use Rattle.ring.proofs.multiply.leaf.Reads as leaf-reads
+use Rattle.ring.proofs.multiply.fixed_leaf.Reads as leaf-reads
 use Rattle.ring.proofs.multiply.+karatsuba+middle+outer.{statement}
 use Rattle.ring.proofs.multiply.+karatsuba+middle+outer.Tie.{close}
 
@@ -83,11 +83,12 @@ module _ (t : ℕ) where
       let deeper : 2 * a .depth + 1 ≡ t = start .pre .0 in (
         omega arith,
         (
-          omega arith,
-          front-long (a .h) (a .a .now) (pre .2) ∙ pre .1,
-          front-long (a .h) (a .b .now) (pre .3) ∙ pre .1,
-          front-long (2 * a .h) (a .c .now) (omega arith) ∙ ap (_*_ 2) (pre .1),
-          pre .5,
+          pre .0,
+          omega (arith, pre .1, pre .2),
+          front-long (a .h) (a .a .now) (pre .3) ∙ pre .2,
+          front-long (a .h) (a .b .now) (pre .4) ∙ pre .2,
+          front-long (2 * a .h) (a .c .now) (omega arith) ∙ ap (_*_ 2) (pre .2),
+          pre .6,
         ),
       )
 
@@ -114,10 +115,11 @@ module _ (t : ℕ) where
       let deeper : 2 * a .depth + 1 ≡ t = start .pre .0 in (
         omega arith,
         (
-          omega arith,
-          rest-long (a .h) (a .a .now) (pre .2) ∙ pre .1,
-          rest-long (a .h) (a .b .now) (pre .3) ∙ pre .1,
-          rest-long (2 * a .h) (product first ++ drop (2 * a .h) (a .c .now)) (whole-long first) ∙ ap (_*_ 2) (pre .1),
+          pre .0,
+          omega (arith, pre .1, pre .2),
+          rest-long (a .h) (a .a .now) (pre .3) ∙ pre .2,
+          rest-long (a .h) (a .b .now) (pre .4) ∙ pre .2,
+          rest-long (2 * a .h) (product first ++ drop (2 * a .h) (a .c .now)) (whole-long first) ∙ ap (_*_ 2) (pre .2),
           first .before .before .before .before .karatsuba .ensures .0,
         ),
       )
@@ -128,7 +130,7 @@ module _ (t : ℕ) where
       let start = outer-start first in
       let n = 2 * start .args .h in
       let all = product first ++ drop n (start .args .c .now) in
-      let same : length all ≡ length (start .args .c .now) = omega (arith, whole-long first, start .pre .1 .4) in
+      let same : length all ≡ length (start .args .c .now) = omega (arith, whole-long first, start .pre .1 .5) in
       same-len-mid n (length all - n) all (c .before .before .before .before .karatsuba2 .last .1 .1 .0) (c .before .before .before .before .karatsuba2 .kept .1 .1 .0) ∙ same
 
   outer-returns : outer-lts.Need-returns (outer-calls t) (outer-at t) outer.Post
@@ -141,10 +143,10 @@ module _ (t : ℕ) where
       let back = both-back (2 * a .h) (a .c .now) (product first) (second .last .1 .1 .0) (omega arith) (product-long first) in (
         second .ensures .0,
         ap (bits 64) (back .0) ∙ first .before .before .before .before .karatsuba .ensures .1
-            ∙ ap (λ (n : ℕ). wide (64 * n) (bits 64 (take (a .h) (a .a .now))) (bits 64 (take (a .h) (a .b .now)))) (front-long (a .h) (a .a .now) (pre .2)),
+            ∙ ap (λ (n : ℕ). wide (64 * n) (bits 64 (take (a .h) (a .a .now))) (bits 64 (take (a .h) (a .b .now)))) (front-long (a .h) (a .a .now) (pre .3)),
         ap (bits 64) (back .1) ∙ second .ensures .1
             ∙ ap₂ (λ (x y : List ℕ). wide (64 * length x) (bits 64 x) (bits 64 y)) (rest (a .h) (a .a .now)) (rest (a .h) (a .b .now))
-            ∙ ap (λ (n : ℕ). wide (64 * n) (bits 64 (drop (a .h) (a .a .now))) (bits 64 (drop (a .h) (a .b .now)))) (back-long (a .h) (a .a .now) (pre .2)),
+            ∙ ap (λ (n : ℕ). wide (64 * n) (bits 64 (drop (a .h) (a .a .now))) (bits 64 (drop (a .h) (a .b .now)))) (back-long (a .h) (a .a .now) (pre .3)),
       )
 
 -- ---- `middle`
@@ -152,13 +154,13 @@ module _ (t : ℕ) where
 module _ (t : ℕ) where
   -- what fits in the arrays
   module _ (c : middle-lts.Start (middle-calls t) (middle-at t) middle.Post) where
-    half : c .args .h ≤ 4 * leafWords
-    half = omega (arith, c .pre .1 .1, pow-mono {i = c .args .depth} {j = 2} (omega (arith, c .pre .1 .0)))
+    half : c .args .h ≤ halfWords
+    half = omega (arith, c .pre .1 .1)
 
-    room : (z x : List ℕ) → z ≡ replicate (4 * leafWords) 0 → length x ≡ length z → c .args .h ≤ length x
-    room z x none same = omega (arith, half, same, ap length none, length-replicate {A = ℕ} (4 * leafWords) 0)
+    room : (z x : List ℕ) → z ≡ replicate halfWords 0 → length x ≡ length z → c .args .h ≤ length x
+    room z x none same = omega (arith, half, same, ap length none, length-replicate {A = ℕ} halfWords 0)
 
-    front : (z x : List ℕ) → z ≡ replicate (4 * leafWords) 0 → length x ≡ length z → length (take (c .args .h) x) ≡ c .args .h
+    front : (z x : List ℕ) → z ≡ replicate halfWords 0 → length x ≡ length z → length (take (c .args .h) x) ≡ c .args .h
     front z x none same = length-take-le (c .args .h) x (room z x none same)
 
   middle-product : middle-lts.Need-karatsuba-requires (middle-calls t) (middle-at t) middle.Post
@@ -169,11 +171,12 @@ module _ (t : ℕ) where
       let deeper : 2 * a .depth + 1 ≡ t = start .pre .0 in (
         omega arith,
         (
-          omega arith,
-          front start (c .before .before .before .before .before .before .before .before .before .before .before .half-zeros .result) (c .before .before .before .before .before .before .before .before .before .add-halves .last .0) (c .before .before .before .before .before .before .before .before .before .before .before .half-zeros .ensures) (c .before .before .before .before .before .before .before .before .before .add-halves .kept .0) ∙ pre .1,
-          front start (c .before .before .before .before .before .before .before .half-zeros2 .result) (c .before .before .before .before .before .add-halves2 .last .0) (c .before .before .before .before .before .before .before .half-zeros2 .ensures) (c .before .before .before .before .before .add-halves2 .kept .0) ∙ pre .1,
-          length-take-le (2 * a .h) (a .m .now) (pre .4) ∙ ap (_*_ 2) (pre .1),
-          pre .5,
+          pre .0,
+          omega (arith, pre .1, pre .2),
+          front start (c .before .before .before .before .before .before .before .before .before .before .before .half-zeros .result) (c .before .before .before .before .before .before .before .before .before .add-halves .last .0) (c .before .before .before .before .before .before .before .before .before .before .before .half-zeros .ensures) (c .before .before .before .before .before .before .before .before .before .add-halves .kept .0) ∙ pre .2,
+          front start (c .before .before .before .before .before .before .before .half-zeros2 .result) (c .before .before .before .before .before .add-halves2 .last .0) (c .before .before .before .before .before .before .before .half-zeros2 .ensures) (c .before .before .before .before .before .add-halves2 .kept .0) ∙ pre .2,
+          length-take-le (2 * a .h) (a .m .now) (pre .5) ∙ ap (_*_ 2) (pre .2),
+          pre .6,
         ),
       )
 
@@ -190,30 +193,33 @@ module _ (t : ℕ) where
       let x = first .last .0 in
       let y = second .last .0 in (
         k .ensures .0,
-        ap (bits 64) (front-is (2 * a .h) (a .m .now) (k .last .1 .1 .0) (k .kept .1 .1 .0 ∙ length-take-le (2 * a .h) (a .m .now) (pre .4)))
+        ap (bits 64) (front-is (2 * a .h) (a .m .now) (k .last .1 .1 .0) (k .kept .1 .1 .0 ∙ length-take-le (2 * a .h) (a .m .now) (pre .5)))
             ∙ k .ensures .1
             ∙ ap (λ (n : ℕ). wide (64 * n) (bits 64 (take (a .h) x)) (bits 64 (take (a .h) y))) (front start (none-x .result) x (none-x .ensures) (first .kept .0))
             ∙ ap₂ (wide (64 * a .h))
-            (halves-sum (a .h) (4 * leafWords) (a .a .now) (none-x .result) x (pre .2) (room start (none-x .result) x (none-x .ensures) (first .kept .0)) (none-x .ensures) (first .ensures))
-            (halves-sum (a .h) (4 * leafWords) (a .b .now) (none-y .result) y (pre .3) (room start (none-y .result) y (none-y .ensures) (second .kept .0)) (none-y .ensures) (second .ensures)),
+            (halves-sum (a .h) halfWords (a .a .now) (none-x .result) x (pre .3) (room start (none-x .result) x (none-x .ensures) (first .kept .0)) (none-x .ensures) (first .ensures))
+            (halves-sum (a .h) halfWords (a .b .now) (none-y .result) y (pre .4) (room start (none-y .result) y (none-y .ensures) (second .kept .0)) (none-y .ensures) (second .ensures)),
       )
 
 -- ---- `karatsuba`
 
 module _ (t : ℕ) where
-  karatsuba-leaf : karatsuba-lts.Need-leaf-requires (karatsuba-calls t) (karatsuba-at t) karatsuba.Post
+  karatsuba-leaf : karatsuba-lts.Need-fixed-leaf-requires (karatsuba-calls t) (karatsuba-at t) karatsuba.Post
   karatsuba-leaf c κs =
-      let pre = c .before .before .before .before .before .before .before .pre .1 in
-      let none : c .before .before .before .before .before .before .before .args .depth ≡ 0 = c .before .before .if1 .taken in
-      (lit≤ tt, refl, rw none at (pre .1), rw none at (pre .2), rw none at (pre .3), pre .4)
+      let start = c .before .before .before .before .before .before .before in
+      let a = start .args in
+      let pre = start .pre .1 in
+      let none : a .depth ≡ 0 = c .before .before .if1 .taken in
+      let one : a .n * 2 ^ a .depth ≡ a .n = ap (λ (d : ℕ). a .n * 2 ^ d) none ∙ mul-one (a .n) in
+      (pre .0, pre .2 ∙ one, pre .3 ∙ one, pre .4 ∙ ap (_*_ 2) one, pre .5)
 
   karatsuba-returns : karatsuba-lts.Need-returns (karatsuba-calls t) (karatsuba-at t) karatsuba.Post
   karatsuba-returns c =
       let start = c .before .before .before .before .before .before .before .before .before .before .before .before in
       let a = start .args in
       let none : a .depth ≡ 0 = c .before .before .before .before .before .before .before .if1 .taken in
-      let long : 49 ≡ length (a .a .now) = sym (rw none at (start .pre .1 .1)) in
-      (c .before .before .before .before .leaf .ensures .0, c .before .before .before .before .leaf .ensures .1 ∙ ap (λ (n : ℕ). wide (64 * n) (bits 64 (a .a .now)) (bits 64 (a .b .now))) long)
+      let long : a .n ≡ length (a .a .now) = sym (start .pre .1 .2 ∙ ap (λ (d : ℕ). a .n * 2 ^ d) none ∙ mul-one (a .n)) in
+      (c .before .before .before .before .fixed-leaf .ensures .0, c .before .before .before .before .fixed-leaf .ensures .1 ∙ ap (λ (n : ℕ). wide (64 * n) (bits 64 (a .a .now)) (bits 64 (a .b .now))) long)
 
   -- the lengths, where there are halves
   module _ (c : karatsuba-lts.Else1 (karatsuba-calls t) (karatsuba-at t) karatsuba.Post) where
@@ -226,36 +232,36 @@ module _ (t : ℕ) where
     deep : 1 ≤ given .args .depth
     deep = omega arith
 
-    whole : length (given .args .a .now) ≡ 2 * (leafWords * 2 ^ (given .args .depth - 1))
-    whole = omega (arith, given .pre .1 .1, power-twice (given .args .depth) deep)
+    whole : length (given .args .a .now) ≡ 2 * (given .args .n * 2 ^ (given .args .depth - 1))
+    whole = given .pre .1 .2 ∙ power-twice (given .args .n) (given .args .depth) deep
 
-    half-is : h ≡ leafWords * 2 ^ (given .args .depth - 1)
+    half-is : h ≡ given .args .n * 2 ^ (given .args .depth - 1)
     half-is = omega (arith, whole)
 
     long-a : length (given .args .a .now) ≡ 2 * h
     long-a = whole ∙ ap (_*_ 2) (sym half-is)
 
     long-b : length (given .args .b .now) ≡ 2 * h
-    long-b = omega (arith, given .pre .1 .1, given .pre .1 .2, long-a)
+    long-b = given .pre .1 .3 ∙ sym (given .pre .1 .2) ∙ long-a
 
     long-c : length (given .args .c .now) ≡ 4 * h
-    long-c = omega (arith, given .pre .1 .1, given .pre .1 .3, long-a)
+    long-c = omega (arith, given .pre .1 .2, given .pre .1 .4, long-a)
 
     fits : length (given .args .a .now) ≤ factorWords
-    fits = omega (arith, given .pre .1 .1, pow-mono {i = given .args .depth} {j = 3} (omega (arith, given .pre .1 .0)))
+    fits = omega (arith, given .pre .1 .1, given .pre .1 .2)
 
     less : 2 * (given .args .depth - 1) + 1 < t
     less = let deeper : 2 * given .args .depth ≡ t = given .pre .0 in omega (arith, deep)
 
   karatsuba-outer : karatsuba-lts.Need-outer-requires (karatsuba-calls t) (karatsuba-at t) karatsuba.Post
   karatsuba-outer c κs =
-      let e = c .before .before in (less e, (omega (arith, deep e, given e .pre .1 .0), half-is e, long-a e, long-b e, long-c e, given e .pre .1 .4))
+      let e = c .before .before in (less e, (given e .pre .1 .0, omega (arith, long-a e, fits e), half-is e, long-a e, long-b e, long-c e, given e .pre .1 .5))
 
   karatsuba-middle : karatsuba-lts.Need-middle-requires (karatsuba-calls t) (karatsuba-at t) karatsuba.Post
   karatsuba-middle c κs =
       let e = c .before .before .before .before .before .before .before .before .before .before in (
         less e,
-        (omega (arith, deep e, given e .pre .1 .0), half-is e, long-a e, long-b e, omega (arith, long-a e, fits e), c .before .before .before .before .before .before .before .outer .ensures .0),
+        (given e .pre .1 .0, omega (arith, long-a e, fits e), half-is e, long-a e, long-b e, omega (arith, long-a e, fits e), c .before .before .before .before .before .before .before .outer .ensures .0),
       )
 
   -- the product of the sums is there
@@ -290,8 +296,8 @@ pub +karatsuba+middle+outer-spec : {M : Type 1} → statement M
     close μ-karatsuba μ-middle μ-outer
     (λ t. karatsuba-lts.spec (karatsuba-calls t) (karatsuba-at t) karatsuba.Post
     (karatsuba-leaf t)
-    (λ c. c .before .before .before .before .leaf .kept .1 .1 .0)
-    (λ c. c .before .before .before .before .leaf .kept .1 .1 .1 .0)
+    (λ c. c .before .before .before .before .fixed-leaf .kept .1 .1 .0)
+    (λ c. c .before .before .before .before .fixed-leaf .kept .1 .1 .1 .0)
     (karatsuba-returns t)
     (λ c. deep t (c .before .before))
     (karatsuba-outer t)
@@ -307,25 +313,25 @@ pub +karatsuba+middle+outer-spec : {M : Type 1} → statement M
     (λ t. middle-lts.spec (middle-calls t) (middle-at t) middle.Post
     (λ c κs. tt)
     (λ c. search needs)
-    (λ c κs. (c .before .before .before .before .before .before .pre .1 .2, omega (arith, half t (c .before .before .before .before .before .before))))
+    (λ c κs. (c .before .before .before .before .before .before .pre .1 .3, omega (arith, half t (c .before .before .before .before .before .before))))
     (λ c κs. tt)
     (λ c. search needs)
-    (λ c κs. (c .before .before .before .before .before .before .before .before .before .before .pre .1 .3, omega (arith, half t (c .before .before .before .before .before .before .before .before .before .before))))
+    (λ c κs. (c .before .before .before .before .before .before .before .before .before .before .pre .1 .4, omega (arith, half t (c .before .before .before .before .before .before .before .before .before .before))))
     (λ c. omega (arith, half t (c .before .before .before .before .before .before .before .before .before .before .before .before)))
     (λ c. let z = c .before .before .before .before .before .before .before .half-zeros in let x = c .before .before .before .before .before .add-halves in room t (c .before .before .before .before .before .before .before .before .before .before .before .before) (z .result) (x .last .0) (z .ensures) (x .kept .0))
     (λ c. let z = c .before .before .before .before .before .before .before .before .half-zeros in let x = c .before .before .before .before .before .before .add-halves in sym (front t (c .before .before .before .before .before .before .before .before .before .before .before .before .before) (z .result) (x .last .0) (z .ensures) (x .kept .0)))
     (λ c. let z = c .before .before .before .before .half-zeros2 in let y = c .before .before .add-halves2 in room t (c .before .before .before .before .before .before .before .before .before .before .before .before .before) (z .result) (y .last .0) (z .ensures) (y .kept .0))
     (λ c. let z = c .before .before .before .before .before .half-zeros2 in let y = c .before .before .before .add-halves2 in sym (front t (c .before .before .before .before .before .before .before .before .before .before .before .before .before .before) (z .result) (y .last .0) (z .ensures) (y .kept .0)))
-    (λ c. c .before .before .before .before .before .before .before .before .before .before .before .before .before .before .pre .1 .4)
-    (λ c. sym (length-take-le (2 * c .before .before .before .before .before .before .before .before .before .before .before .before .before .before .before .args .h) (c .before .before .before .before .before .before .before .before .before .before .before .before .before .before .before .args .m .now) (c .before .before .before .before .before .before .before .before .before .before .before .before .before .before .before .pre .1 .4)))
+    (λ c. c .before .before .before .before .before .before .before .before .before .before .before .before .before .before .pre .1 .5)
+    (λ c. sym (length-take-le (2 * c .before .before .before .before .before .before .before .before .before .before .before .before .before .before .before .args .h) (c .before .before .before .before .before .before .before .before .before .before .before .before .before .before .before .args .m .now) (c .before .before .before .before .before .before .before .before .before .before .before .before .before .before .before .pre .1 .5)))
     (middle-product t)
     (λ c. length-front (c .before .before .before .before .before .before .before .before .before .before .before .before .before .before .before .before .before .before .before .before .before .args .m .now) (c .before .before .before .before .karatsuba .last .1 .1 .0) (2 * c .before .before .before .before .before .before .before .before .before .before .before .before .before .before .before .before .before .before .before .before .before .args .h) (c .before .before .before .before .karatsuba .kept .1 .1 .0))
     (λ c. c .before .before .before .before .karatsuba .kept .1 .1 .1 .0)
     (middle-returns t))
     λ t. outer-lts.spec (outer-calls t) (outer-at t) outer.Post
     (λ c. omega arith)
-    (λ c. let start = c .before .before .before .before .before in sym (front-long (start .args .h) (start .args .a .now) (start .pre .1 .2)))
-    (λ c. let start = c .before .before .before .before .before .before in sym (front-long (start .args .h) (start .args .b .now) (start .pre .1 .3)))
+    (λ c. let start = c .before .before .before .before .before in sym (front-long (start .args .h) (start .args .a .now) (start .pre .1 .3)))
+    (λ c. let start = c .before .before .before .before .before .before in sym (front-long (start .args .h) (start .args .b .now) (start .pre .1 .4)))
     (λ c. omega arith)
     (λ c. let start = c .before .before .before .before .before .before .before in sym (front-long (2 * start .args .h) (start .args .c .now) (omega arith)))
     (outer-first t)

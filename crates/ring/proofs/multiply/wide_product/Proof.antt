@@ -5,12 +5,11 @@ use Prim.Native.Nat.{ℕ, _+_, _-_, _*_, _≤_}
 use native.Mathlib.Omega.{arith}
 use borrow.Author.Needs.{needs}
 use lib.ListN.{length, take}
-use lib.Pow.{pow-mono}
 use lib.Seq.{length-take-le}
 use Rattle.hashing.specs.Lists.{bits}
 use Rattle.ring.specs.Polynomials.{Poly, InRing}
 use Rattle.ring.specs.inner.Wide.{wide}
-use Rattle.ring.specs.inner.Sizes.{leafWords, factorWords, wideWords}
+use Rattle.ring.specs.inner.Sizes.{factorWords, wideWords}
 use Rattle.ring.proofs.Shifts.{wide-more}
 use Rattle.ring.proofs.multiply.Laws.{clear-none}
 use Rattle.ring.proofs.multiply.Parts.{bits-front, front-back}
@@ -18,21 +17,21 @@ use Rattle.ring.proofs.multiply.wide_product.Statement.{statement}
 use Rattle.ring.proofs.multiply.wide_product.Tie as tie
 
 -- the words that are multiplied
-module _ (c : tie.After-length-of) where
+module _ (c : tie.After-split-of) where
   abbrev long : ℕ
-  long = c .length-of .result
+  long = c .split-of .result .words
 
   room : long ≤ factorWords
-  room = omega (arith, c .length-of .ensures, pow-mono {i = c .before .depth-of .result} {j = 3} (omega (arith, c .before .depth-of .ensures .0)))
+  room = c .split-of .ensures .3
 
   front : (x : List ℕ) → length x ≡ factorWords → length (take long x) ≡ long
   front x all = length-take-le long x (omega (arith, room))
 
   -- a padded factor has the coefficients of the factor there
-  factor : (a p : List ℕ) → length p ≡ factorWords → InRing (64 * c .before .before .args .n) (bits 64 a) → bits 64 p ≡ bits 64 a
+  factor : (a p : List ℕ) → length p ≡ factorWords → InRing (64 * c .before .args .n) (bits 64 a) → bits 64 p ≡ bits 64 a
       → bits 64 (take long p) ≡ bits 64 a
   factor a p all inside same =
-      let covers : c .before .before .args .n ≤ long = omega (arith, c .before .depth-of .ensures .1, c .length-of .ensures) in
+      let covers : c .before .args .n ≤ long = c .split-of .ensures .2 in
       bits-front long p (omega (arith, room)) (rw same (λ k above. inside k (omega arith))) ∙ same
 
 module _ (c : tie.After-wide-zeros) where
@@ -46,12 +45,12 @@ returns c k below =
     let pb = zeros .before .padded2 in
     let pa = zeros .before .before .padded in
     let chosen = zeros .before .before .before in
-    let start = chosen .before .before in
+    let start = chosen .before in
     let a = start .args .a in
     let b = start .args .b in
     let n = 64 * start .args .n in
     let m = long chosen in
-    let more : 64 * m ≡ n + (64 * m - n) = omega (arith, chosen .before .depth-of .ensures .1, chosen .length-of .ensures) in
+    let more : 64 * m ≡ n + (64 * m - n) = omega (arith, chosen .split-of .ensures .2) in
     ap (λ (p : Poly). p k)
     (front-back (2 * m) wideWords (zeros .wide-zeros .result) (product .last .1 .1 .0) (zeros .wide-zeros .ensures) (product .kept .1 .1 .0 ∙ both zeros)
     ∙ product .ensures .1
@@ -64,7 +63,6 @@ wide-product-spec =
     tie.close
     (tie.spec
     (λ c κs. c .pre .0)
-    (λ c κs. c .depth-of .ensures .0)
     (λ c κs. tt)
     (λ c κs. tt)
     (λ c κs. tt)
@@ -79,11 +77,13 @@ wide-product-spec =
     (λ c. search needs)
     (λ c κs.
     let chosen = c .before .before .before .before .before .before .before .before in
-    let size = chosen .length-of .ensures in (
-      chosen .before .depth-of .ensures .0,
+    let split = chosen .split-of .ensures in
+    let size = split .1 in (
+      split .0,
+      rw size at (split .3),
       front chosen (c .before .before .before .before .before .before .before .padded .result) (omega arith) ∙ size,
       front chosen (c .before .before .before .before .before .before .padded2 .result) (omega arith) ∙ size,
       both (c .before .before .before .before .before) ∙ ap (_*_ 2) size,
-      clear-none leafWords (c .before .before .before .before .blank .result) (c .before .before .before .before .blank .ensures),
+      clear-none (chosen .split-of .result .leaf) (c .before .before .before .before .blank .result) (c .before .before .before .before .blank .ensures),
     ))
     returns)
