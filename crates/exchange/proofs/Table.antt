@@ -4,10 +4,10 @@ use Prim.Native.Nat.{ℕ, _-_, _<_}
 use native.Mathlib.Omega.{arith}
 use lib.Dec.{lit<}
 use Rattle.ring.proofs.Examples.{P1, P2, P3, P4}
-use Rattle.ring.specs.Levels.{level1, level3}
+use Rattle.ring.specs.Levels.{level1, level3, level5}
 use Rattle.ring.specs.Polynomials.{Poly, terms, power, add, weight, listed}
 use Rattle.exchange.specs.decoder.Decoder.{Pair, counter, residual, threshold, boundOf, step}
-use Rattle.exchange.specs.Examples.{Examples, Counts, FairPositions}
+use Rattle.exchange.specs.Examples.{Examples, Threshold5, Counts, FairPositions}
 use Rattle.exchange.specs.Fair.{taken, drawOne, drawOn, draw, ranOut}
 use Rattle.exchange.specs.Sampler.{candidate, appended, sampleBelow, sample, replacedBelow, replaced}
 use Rattle.exchange.proofs.decoder.Laws.{Low, counter-le, step-idles}
@@ -44,6 +44,10 @@ examples =
       P11 = (refl, lit< tt, nothing-flips);
       P12 = (refl, refl, refl);
     }
+
+pub threshold-5 : Threshold5
+unfolding threshold level5
+threshold-5 = record { least = refl; above = refl }
 
 pub counts : Counts
 unfolding listed candidate appended replacedBelow replaced

@@ -3,7 +3,7 @@ use mathlib.Core.Path.{_≡_}
 use mathlib.Core.Bool.{true, false}
 use mathlib.Core.List.{[], _∷_}
 use Prim.Native.Nat.{ℕ, _-_, _^_, _<_}
-use Rattle.ring.specs.Levels.{level1, level3}
+use Rattle.ring.specs.Levels.{level1, level3, level5}
 use Rattle.ring.specs.Polynomials.{Poly, mul, terms, weight, IsInverse, hasInverse, inverseOf}
 use Rattle.exchange.specs.decoder.Decoder.{Pair, counter, residual, threshold, step}
 use Rattle.exchange.specs.Fair.{draw, ranOut}
@@ -36,6 +36,11 @@ pub record Examples : Type 0 where
   pub P12 : (counter 7 (terms 7 (0 ∷ 1 ∷ 3 ∷ [])) (terms 7 (0 ∷ 1 ∷ 3 ∷ [])) 0 ≡ 3)
       × (counter 7 (terms 7 (0 ∷ 1 ∷ 3 ∷ [])) (terms 7 (0 ∷ 1 ∷ 3 ∷ [])) 1 ≡ 1)
       × (counter 7 (terms 7 (0 ∷ 1 ∷ 3 ∷ [])) (terms 7 (0 ∷ 1 ∷ 3 ∷ [])) 2 ≡ 1)
+
+-- beside P9 and P10, Level 5: S = 13452 gives 69, S = 13453 gives 70
+pub record Threshold5 : Type 0 where
+  pub least : threshold level5 13452 ≡ 69
+  pub above : threshold level5 13453 ≡ 70
 
 -- how many positions P5 to P8 replace
 pub record Counts : Type 0 where

@@ -62,7 +62,7 @@ fn differences(level: u32, e0: [u64; WORDS], e1: [u64; WORDS], f: error::ErrorWo
 
 // m' where it was the sender's own, so that nothing differs, else sigma.
 fn chosen(differences: usize, m: [u8; 32], sigma: &[u8]) -> [u8; 32]
-    requires { ⌜ (differences ≤ 65536) × (length m ≡ messageBytes) × (length (now sigma) ≡ messageBytes) ⌝ }
+    requires { ⌜ (differences ≤ 131072) × (length m ≡ messageBytes) × (length (now sigma) ≡ messageBytes) ⌝ }
     ensures { λ r. ⌜ r ≡ either (eqb differences 0) m (now (sigma .entry)) ⌝ }
 {
     let mut out = no_digest();

@@ -14,7 +14,7 @@ use Rattle.exchange.specs.inner.ByteRows.{blockBytes, blocks, emptyRow, 
 use Rattle.exchange.specs.inner.Counting.{total}
 
 abbrev pub planes : ℕ
-planes = 7
+planes = 8
 
 -- the words of a block, of a plane, and of all planes
 abbrev pub blockWords : ℕ

@@ -21,8 +21,8 @@ ghost use Rattle.exchange.specs.inner.ByteRows.{blockBytes, blocks, rowA
 ghost use Rattle.exchange.specs.inner.Counting.{total};
 ghost use Rattle.exchange.specs.inner.Planes.{planes, blockWords, planeWords, planesWords, rowStarts, column, numberAt, counterAt, onesAt, inRow, Rows, Kept, reachesAt};
 
-// Seven planes count to 127, and a half has at most 103 positions.
-const PLANES: usize = 7;
+// Eight planes count to 255, and a half has at most 137 positions.
+const PLANES: usize = 8;
 
 // The words of a block, of a plane, and of all planes.
 const BLOCK_WORDS: usize = BLOCK / 8;

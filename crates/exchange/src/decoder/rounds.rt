@@ -230,7 +230,7 @@ fn under(mask: u64, x: [u64; WORDS], n: usize) -> [u64; WORDS]
 // The error of a decoding that left no bit of the residual, and no error after one that left some. No branch tells
 // which.
 pub fn kept(level: u32, left: usize, e: WordPair) -> WordPair
-    requires { ⌜ left ≤ 65536 ⌝ ∗ ⌜ Inside (levelOf level) e ⌝ }
+    requires { ⌜ left ≤ 131072 ⌝ ∗ ⌜ Inside (levelOf level) e ⌝ }
     ensures { λ k. ⌜ pairOf k ≡ Working.kept (ltb 0 left) (pairOf e) ⌝ }
 {
     let n = size::block(level) / 64 + 1;

@@ -26,7 +26,7 @@ compares bound clear p j byte masks few =
     let digits : ℕ → Bool = λ k. bitAt (getD (column p (j / 64)) k 0) (j % 64) in
     reaches-ext planes (λ k. bitAt (getD clear k 0) (j % 64)) (λ k. not (bitAt bound k || bitAt bound planes)) digits (λ k h. masks k (j % 64) h (omega arith))
     ∙ reaches-leb planes (λ k. bitAt bound k || bitAt bound planes) digits
-    ∙ capped planes bound (number planes digits) byte (omega arith)
+    ∙ capped planes bound (number planes digits) (omega (arith, byte)) (omega arith)
 
 returns : tie.Need-returns
 returns c = fun-ext (λ j. go j (decLt j r))
