@@ -7,12 +7,13 @@ use lib.ListN.{length, take}
 use Rattle.hashing.specs.Answers.{differs, firstOf}
 use Rattle.hashing.proofs.Answers.{settled}
 use Rattle.ring.proofs.Layouts.{Below}
+use Rattle.ring.proofs.Levels.{level-small}
 use Rattle.maps.specs.Keeping.{keep}
 use Rattle.maps.specs.Promises.{WriteMapPromise, AcceptMapPromise, writing-reasons, meant-reasons, accepting-reasons, write-map-says, accept-map-says}
 use Rattle.maps.specs.Session.{InForm, GoesIn}
 use Rattle.maps.specs.Writes.{mapBytes, mapBody, recordBytes, littleBytes, covered, tagOf, written, kartIn, counterIn, mapIn, coveredIn, tagIn}
 use Rattle.maps.proofs.Equal.{equal-same}
-use Rattle.maps.proofs.Judged.{WritingClear, writing-clear, level-small, accepting-clear, accepting-none, in-form}
+use Rattle.maps.proofs.Judged.{WritingClear, writing-clear, accepting-clear, accepting-none, in-form}
 use Rattle.maps.proofs.Keeping.{goes-in, stays, one-kept}
 use Rattle.maps.proofs.Written.{written-long, written-kind, written-body, written-covered, written-tag, written-kart, written-counter, written-map, covered-parts, whole-parts}
 

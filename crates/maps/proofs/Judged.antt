@@ -1,8 +1,7 @@
 -- What it says that a judge finds nothing, in both directions. Assumes nothing.
 use mathlib.Core.Path.{_≡_, _∙_}
-use mathlib.Core.Bool.{true, false, false≢true}
-use mathlib.Core.List.{List, [], _∷_, map}
-use mathlib.Core.Logic.{⊎-elim}
+use mathlib.Core.Bool.{true, false}
+use mathlib.Core.List.{List}
 use Prim.Native.Nat.{ℕ, _+_, _-_, _≤_, _<_}
 use native.Mathlib.Omega.{arith}
 use borrow.Author.Tests.{eq-eqb, eqb-true, not-false, ltb-false, leb-false, le-ltb, lt-leb}
@@ -10,29 +9,13 @@ use lib.Dec.{lit<, eqb, ltb}
 use lib.ListN.{length}
 use Rattle.hashing.specs.Answers.{differs, firstOf}
 use Rattle.hashing.proofs.Answers.{Numbered, agree, clear, all-clear, first-after}
-use Rattle.ring.specs.Levels.{Level, level1, level3, table, known, messageBytes}
-use Rattle.ring.specs.Polynomials.{listed}
-use Rattle.ring.proofs.Bools.{both-false, one-true}
+use Rattle.ring.specs.Levels.{known, messageBytes}
+use Rattle.ring.proofs.Bools.{both-false}
 use Rattle.exchange.specs.Records.{bodyOf, kindOf}
 use Rattle.maps.specs.Promises.{writing-reasons, form-reasons, meant-reasons, accepting-reasons}
 use Rattle.maps.specs.Session.{InForm, GoesIn}
 use Rattle.maps.specs.Writes.{mapBytes, mapBody, recordBytes, mapKind}
 use Rattle.maps.proofs.Equal.{equal-true, equal-same}
-
--- a known level takes one byte of the kind
-total : List ℕ → ℕ
-total [] = 0
-total (x ∷ xs) = x + total xs
-
-listed-total : (x : ℕ) (xs : List ℕ) → listed x xs ≡ true → x ≤ total xs
-unfolding listed total
-listed-total x [] e = absurd (false≢true e)
-listed-total x (y ∷ xs) e =
-    ⊎-elim (λ here. omega (arith, eqb-true x y here)) (λ later. omega (arith, listed-total x xs later)) (one-true (eqb x y) (listed x xs) e)
-
-pub level-small : (level : ℕ) → known level ≡ true → level < 256
-unfolding known table level1 level3 total
-level-small level e = omega (arith, listed-total level (map (λ (l : Level). l .number) table) e)
 
 -- the writer
 pub record WritingClear (level : ℕ) (key map : List ℕ) (room : ℕ) : Type 0 where

@@ -10,7 +10,7 @@ use lib.Dec.{lit<}
 use Rattle.hashing.specs.Answers.Outcome.{gives}
 use Rattle.hashing.proofs.Answers.{done, settled, clear, all-clear, last-clear, one-output}
 use Rattle.ring.specs.Bytes.{byteLength}
-use Rattle.ring.specs.Levels.{Level, known, levelOf, positionBits, privateBytes, level1, level3}
+use Rattle.ring.specs.Levels.{Level, known, levelOf, positionBits, privateBytes, level1, level3, level5}
 use Rattle.ring.specs.Chain.{top, halvings}
 use Rattle.ring.proofs.Layouts.{Below}
 use Rattle.ring.proofs.Levels.{width}
@@ -101,3 +101,8 @@ computed1 = refl
 pub computed3 : computed level3 ≡ 15 ∷ 451 ∷ 6 ∷ []
 unfolding computed level3 top halvings
 computed3 = refl
+
+-- CR 12: "packed 612 too"
+pub computed5 : computed level5 ≡ 16 ∷ 612 ∷ 0 ∷ []
+unfolding computed level5 top halvings
+computed5 = refl

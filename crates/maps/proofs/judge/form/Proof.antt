@@ -6,7 +6,7 @@ use Rattle.hashing.specs.Answers.{differs, firstOf}
 use Rattle.exchange.specs.Records.{bodyOf, kindOf}
 use Rattle.maps.specs.Promises.{form-reasons}
 use Rattle.maps.specs.Writes.{mapKind}
-use Rattle.maps.proofs.Judged.{level-small}
+use Rattle.ring.proofs.Levels.{level-small}
 use Rattle.maps.proofs.judge.form.Statement.{statement}
 use Rattle.maps.proofs.judge.form.Tie as tie
 

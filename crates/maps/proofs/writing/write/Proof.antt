@@ -6,9 +6,10 @@ use native.Mathlib.Omega.{arith}
 use lib.ListN.{length, take, drop, length-take, length-drop}
 use lib.Seq.{length-take-le, length-front}
 use borrow.Author.Needs.{needs}
+use Rattle.ring.proofs.Levels.{level-small}
 use Rattle.exchange.proofs.Parts.{two-parts}
 use Rattle.maps.specs.Writes.{coveredBytes, tagAt, recordBytes, mapBody, littleBytes, covered, tagOf, written}
-use Rattle.maps.proofs.Judged.{WritingClear, writing-clear, level-small}
+use Rattle.maps.proofs.Judged.{WritingClear, writing-clear}
 use Rattle.maps.proofs.Written.{covered-length, covered-lent}
 use Rattle.maps.proofs.writing.write.Statement.{statement}
 use Rattle.maps.proofs.writing.write.Tie as tie
