@@ -64,7 +64,8 @@ static bool length_wrong(const struct level *v, const struct lent *b)
 static bool pad_set(const struct level *v, const struct lent *b)
 {
     size_t last = polynomial_bytes(v) - 1;
-    uint8_t pad = (uint8_t)(v->r % 8 == 0 ? 0 : 0xff << v->r % 8);
+    uint32_t own = wrong(W_PAD_FROM_3) ? 3 : wrong(W_PAD_FROM_5) ? 5 : v->r % 8;
+    uint8_t pad = (uint8_t)(own == 0 ? 0 : 0xff << own);
     if (wrong(W_PAD_BIT_3))
         pad = (uint8_t)(1u << v->r % 8);
     if (b->in != NULL && b->form == PACKED_KEY)

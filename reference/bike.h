@@ -1,7 +1,7 @@
 /* The second program's entries: document 01's ten, and document 02's. A buffer is a pointer and its length; buffers must
  * not overlap.
  *
- * Answers: 0 done; 1 level is neither 1 nor 3; 2 a buffer has a wrong length; 3 a pad bit is set; 4 a private key's
+ * Answers: 0 done; 1 level is not 1, 3 or 5; 2 a buffer has a wrong length; 3 a pad bit is set; 4 a private key's
  * position is >= r or not rising; 5 no inverse exists; 6 decoding failed; 7 record cut; 8 record of unknown kind;
  * 9 record length not its kind's; 10 the words ran out. The smallest number that applies is given, but 10 before 5;
  * after 1 nothing else is looked at, and a refusal fills all outputs with zero at their actual lengths. The numbers

@@ -101,6 +101,7 @@ int main(int argc, char **argv)
         committed_maps();
         committed_syndromes();
         committed_rotations();
+        committed_level_5();
     } else {
         random_cases(argv[1], count);
     }

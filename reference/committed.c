@@ -1,5 +1,6 @@
 /* The case set that a repository keeps: each rule and each refusal, few bytes, and every wrong reading told.
- * Level 1 is tried in full; of Level 3, whose buffers are twice as long, what is told by few cases. */
+ * Level 1 is tried in full; of Level 3, whose buffers are twice as long, what is told by few cases. Level 5 comes last,
+ * in committed_level_5.c. */
 #include <string.h>
 
 #include "cases.h"
@@ -53,6 +54,7 @@ static void emit_head(struct source *g, size_t n)
 
 static void committed_records(struct source *g)
 {
+    /* but for Level 5's, which are known by now: 0x505, and 0x501 with a wrong length */
     static const uint32_t unknown[] = {0x100, 0x107, 0x1ff, 0x005, 0x205, 0x505, 0x501, 0x307, 0xff05, 0};
     for (uint32_t level = 1; level <= 3; level += 2) {
         for (uint32_t thing = 1; thing <= 6; thing++) {
@@ -299,7 +301,7 @@ static void committed_together(struct source *g, const struct level *v)
     emit(&c);
 }
 
-/* Good but for the level. */
+/* Good but for the level; and for the lengths where it is 5, which became a level later. */
 static void committed_levels(struct source *g)
 {
     static const uint32_t bad[] = {0, 2, 5, 257, 259, 0x1000001, UINT32_MAX};

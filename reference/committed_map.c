@@ -101,7 +101,7 @@ static void forms(struct source *g, const struct level *v)
 {
     static const size_t lengths[] = {0, 5, 6, 301, 303, 340};
     struct test_case c = good(g, v), other = c;
-    uint32_t kind = 256 * v->number + 7, other_level = 4 - v->number;
+    uint32_t kind = 256 * v->number + 7, other_level = v->number == 1 ? 3 : 1;
     for (size_t i = 0; i < sizeof lengths / sizeof lengths[0]; i++) {
         struct test_case cut = c;
         cut.in[1].n = lengths[i];
@@ -139,16 +139,25 @@ static void lengths(struct source *g, const struct level *v)
     emit(&c);
 }
 
+static void maps(struct source *g, const struct level *v)
+{
+    writings(g, v);
+    counters(g, v);
+    turned_bits(g, v);
+    other_kart(g, v);
+    forms(g, v);
+    lengths(g, v);
+}
+
 void committed_maps(void)
 {
     struct source g = source_of("committed maps");
-    for (uint32_t level = 1; level <= 3; level += 2) {
-        const struct level *v = level_of(level);
-        writings(&g, v);
-        counters(&g, v);
-        turned_bits(&g, v);
-        other_kart(&g, v);
-        forms(&g, v);
-        lengths(&g, v);
-    }
+    for (uint32_t level = 1; level <= 3; level += 2)
+        maps(&g, level_of(level));
+}
+
+void committed_maps_5(void)
+{
+    struct source g = source_of("committed maps 5");
+    maps(&g, level_of(5));
 }

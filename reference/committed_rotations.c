@@ -78,4 +78,5 @@ void committed_rotations(void)
         positions(&g, v);
         refused(&g, v);
     }
+    ends(&g, level_of(5));
 }

@@ -10,7 +10,11 @@ struct marks {
 
 uint32_t threshold(const struct level *v, uint32_t S)
 {
-    uint64_t sum = (v->slope + wrong(W_SLOPE)) * S + v->offset;
+    uint64_t sum = (v->slope + (wrong(W_SLOPE) ? v->divisor / 10000000 : 0)) * S + v->offset;
+    if (wrong(W_SLOPE_OF_3) && v->number == 5)
+        sum = level_of(3)->slope * 10 * S + v->offset;
+    if (wrong(W_SLOPE_ROUNDED) && v->number == 5)
+        sum = v->slope / 10 * 10 * S + v->offset / 10 * 10;
     uint32_t least = v->least - wrong(W_LEAST);
     if (wrong(W_THRESHOLD_UP))
         sum += v->divisor - 1;
@@ -26,9 +30,9 @@ void count_all(uint32_t r, uint32_t d, const uint32_t h[], const struct poly *re
     for (uint32_t j = 0; j < r; j++)
         count[j] = 0;
     for (uint32_t i = 0; i < d; i++) {
-        uint32_t p = wrong(W_MINUS_P) ? r - h[i] : h[i];
+        const uint8_t *from = twice + (wrong(W_MINUS_P) ? r - h[i] : h[i]);
         for (uint32_t j = 0; j < r; j++)
-            count[j] = (uint8_t)(count[j] + twice[j + p]);
+            count[j] = (uint8_t)(count[j] + from[j]);
     }
 }
 
@@ -106,6 +110,8 @@ static uint32_t masked_bound(const struct level *v, uint32_t T)
 {
     if (wrong(W_MASKED_T))
         return T;
+    if (wrong(W_MASKED_OF_3) && v->number == 5)
+        v = level_of(3);
     return (v->d + 1) / 2 + (wrong(W_MASKED_BOUND) ? 0 : 1);
 }
 

@@ -107,7 +107,7 @@ struct key close_key(struct source *g, const struct level *v)
 
 struct key window_key(struct source *g, const struct level *v)
 {
-    return key_within(g, v, v->number == 1 ? 2000 : 3200);
+    return key_within(g, v, v->number == 1 ? 2000 : v->number == 3 ? 3200 : 4000);
 }
 
 void message_replacing(struct source *g, const struct level *v, uint32_t replaced, uint8_t *m)
@@ -446,6 +446,15 @@ void opening_case(struct test_case *c, struct source *g, const struct level *v, 
     case_open(c, v, key, ciphertext);
 }
 
+void case_open_numbered(struct test_case *c, const struct level *v, uint32_t number)
+{
+    char label[64];
+    snprintf(label, sizeof label, "open %u %u", (unsigned)v->number, (unsigned)number);
+    struct source g = source_of(label);
+    struct key key = window_key(&g, v);
+    opening_case(c, &g, v, &key, HONEST, 0);
+}
+
 /* Words enough for one polynomial. */
 static void fair_case(struct test_case *c, struct source *g, const struct level *v)
 {
@@ -490,10 +499,10 @@ unsigned case_buffers(const struct test_case *c)
     return case_ins(c->entry) + case_outs(c->entry);
 }
 
-/* The length that the same buffer has at the other level; where the level does not matter, another short one. */
+/* The length that the same buffer has at another level; where the level does not matter, another short one. */
 static size_t other_length(uint32_t level, size_t n)
 {
-    const struct level *v = level_of(level), *other = level_of(level == 1 ? 3 : 1);
+    const struct level *v = level_of(level), *other = level_of(level == 1 ? 3 : level == 3 ? 1 : 3);
     if (v != NULL && n == polynomial_bytes(v))
         return polynomial_bytes(other);
     if (v != NULL && n == ciphertext_bytes(v))

@@ -89,6 +89,9 @@ enum opening { HONEST, STRAY, OTHER_ERROR, LIGHT_ERROR, C0_BIT, C1_BIT, NO_SYNDR
 void opening_case(struct test_case *c, struct source *g, const struct level *v, const struct key *key,
                   enum opening how, uint32_t replaced);
 
+/* An honest one under a key of a window: numbered, like a decoder case, whose wrong readings it tells in few bytes. */
+void case_open_numbered(struct test_case *c, const struct level *v, uint32_t number);
+
 /* An ordinary good case of an entry that takes a level. */
 void ordinary_case(struct test_case *c, struct source *g, uint32_t entry, const struct level *v);
 

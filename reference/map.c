@@ -52,11 +52,17 @@ static void tag_of(const uint8_t *key, const uint8_t *record, uint8_t *tag)
             tag, TAG_BYTES);
 }
 
+/* Whether a session may have this level. */
+static bool session_level(uint32_t level)
+{
+    return level_of(level) != NULL && !(wrong(W_MAP_NO_5) && level == 5);
+}
+
 uint32_t ref_map_write(uint32_t level, const uint8_t *key, size_t keyn, uint32_t kart, uint32_t counter,
                        const uint8_t *map, size_t mapn, uint8_t *record, size_t recordn)
 {
     bool lengths = keyn == SHORT_BYTES && mapn == MAP_BYTES && recordn == RECORD_BYTES;
-    uint32_t answer = level_of(level) == NULL ? 1 : lengths ? 0 : 2;
+    uint32_t answer = !session_level(level) ? 1 : lengths ? 0 : 2;
     if (answer != 0) {
         for (size_t i = 0; i < recordn && !wrong(W_LEAVES_BYTES); i++)
             record[i] = 0;
@@ -120,7 +126,7 @@ static void refused(uint32_t answer, const uint8_t *record, uint8_t *stored, siz
 uint32_t ref_map_accept(uint32_t level, const uint8_t *key, size_t keyn, uint32_t kart, const uint8_t *record, size_t n,
                         uint8_t *stored, size_t storedn, uint32_t *last)
 {
-    uint32_t answer = level_of(level) == NULL ? 1 : keyn != SHORT_BYTES || storedn != MAP_BYTES ? 2 : 0;
+    uint32_t answer = !session_level(level) ? 1 : keyn != SHORT_BYTES || storedn != MAP_BYTES ? 2 : 0;
     if (answer == 0)
         answer = judge_form(level, record, n);
     if (answer == 0)

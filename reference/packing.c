@@ -10,6 +10,8 @@ uint32_t position_bits(const struct level *v)
     uint32_t bits = 0;
     while (v->r >> bits != 0)
         bits++;
+    if (wrong(W_PACK_15) && bits > 15)
+        return 15;
     return wrong(W_PACK_16) ? 16 : bits;
 }
 
@@ -103,7 +105,8 @@ bool packed_pad_set(const struct level *v, const uint8_t *bytes)
 {
     const uint8_t *row = bytes + starts_of(v).row;
     size_t end = 8 * row_bytes(v);
-    for (size_t place = wrong(W_UNPACK_LAST_PAD) ? end - 1 : 2 * half_bits(v); place < end; place++)
+    bool last = (wrong(W_UNPACK_LAST_PAD) && packed_pad_bits(v) > 0) || (wrong(W_PACK_PAD_5) && v->number == 5);
+    for (size_t place = last ? end - 1 : 2 * half_bits(v); place < end; place++)
         if (row[place / 8] & mask_of(place))
             return !wrong(W_UNPACK_NO_PAD);
     return false;

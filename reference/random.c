@@ -1,4 +1,4 @@
-/* Random cases: every entry at both levels, a third of them open to damage in one way or more.
+/* Random cases: every entry at each level, a third of them open to damage in one way or more.
  * No expression draws twice from the source, so that every compiler makes the same cases. */
 #include "generator.h"
 
@@ -19,7 +19,7 @@ static void random_hash(struct test_case *c, struct source *g, uint32_t entry)
 
 static void random_record(struct test_case *c, struct source *g)
 {
-    uint32_t level = 1 + 2 * source_below(g, 2), thing = 1 + source_below(g, 6);
+    uint32_t level = 1 + 2 * source_below(g, 3), thing = 1 + source_below(g, 6);
     uint32_t body = (uint32_t)thing_bytes(level_of(level), thing);
     size_t n = body + (source_below(g, 3) == 0 ? source_below(g, 50) : 0);
     switch (source_below(g, 6)) {
@@ -41,7 +41,7 @@ static void random_decode(struct test_case *c, struct source *g, uint32_t entry,
     enum error_kind kind = (enum error_kind)source_below(g, ERROR_KINDS);
     uint32_t weight = v->t;
     if (kind == PLAIN)
-        weight += source_below(g, v->number == 1 ? 35 : 40);
+        weight += source_below(g, v->number == 1 ? 35 : v->number == 3 ? 40 : 70);
     if (kind == CLOSE_KEY)
         weight = 10 + source_below(g, 30);
     if (kind == OWN_PATTERN)
@@ -180,9 +180,16 @@ static void random_damage(struct test_case *c, struct source *g)
         c->level = source_below(g, 2) == 0 ? source_below(g, 600) : source_below(g, UINT32_MAX);
 }
 
+/* The longer a level's buffers, the seldomer. */
+static const struct level *random_level(struct source *g)
+{
+    uint32_t n = source_below(g, 6);
+    return level_of(n == 0 ? 5 : n <= 2 ? 3 : 1);
+}
+
 void random_case_of(struct test_case *c, struct source *g, uint32_t entry)
 {
-    const struct level *v = level_of(source_below(g, 3) == 0 ? 3 : 1);
+    const struct level *v = random_level(g);
     switch (entry) {
     case SHAKE256:
     case SHA3_384: random_hash(c, g, entry); break;

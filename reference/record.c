@@ -27,7 +27,7 @@ static size_t bytes_of_thing(const struct level *v, uint32_t thing)
 /* 8 and 9: kind unknown, or the length not that kind's. */
 static uint32_t judge_kind(uint32_t level, uint32_t thing, uint32_t body)
 {
-    const struct level *v = level_of(level);
+    const struct level *v = wrong(W_RECORD_NO_5) && level == 5 ? NULL : level_of(level);
     if (wrong(W_THING_7) && v != NULL && thing == 7)
         return 0;
     if (wrong(W_ANY_LEVEL) && (thing == 5 || thing == 6))

@@ -7,7 +7,7 @@
 #include <stdint.h>
 
 /* One bit more than R_MAX has room, for the modulus X^r + 1. */
-enum { R_MAX = 24659, WORDS = R_MAX / 64 + 1 };
+enum { R_MAX = 40973, WORDS = R_MAX / 64 + 1 };
 
 /* Coefficient i is bit i mod 64 of word i div 64; all bits from r on are 0. */
 struct poly {

@@ -9,12 +9,15 @@
 static const struct level levels[] = {
     {1, 12323, 71, 134, 69722, 135300000, 10000000, 36, 0x3fff},
     {3, 24659, 103, 199, 52650, 152588000, 10000000, 52, 0x7fff},
+    {5, 40973, 137, 264, 402312, 1587850000, 100000000, 69, 0xffff},
 };
 
 const struct level *level_of(uint32_t number)
 {
     if (wrong(W_LEVEL_BYTE))
         number &= 0xff;
+    if (wrong(W_NO_LEVEL_5) && number == 5)
+        return NULL;
     for (size_t i = 0; i < sizeof levels / sizeof levels[0]; i++)
         if (levels[i].number == number)
             return &levels[i];
@@ -175,6 +178,8 @@ static uint32_t masked(const struct level *v, uint32_t word)
         return word;
     if (wrong(W_MODULO_R))
         return word % v->r;
+    if (wrong(W_MASK_OF_3) && v->number == 5)
+        return word & level_of(3)->mask;
     return word & (wrong(W_WIDER_MASK) ? 2 * v->mask + 1 : v->mask);
 }
 

@@ -8,7 +8,7 @@
 
 #include "ring.h"
 
-enum { D_MAX = 103, T_MAX = 199, SHORT_BYTES = 32, SEED_BYTES = 64, DIGEST_MAX = 48 };
+enum { D_MAX = 137, T_MAX = 264, SHORT_BYTES = 32, SEED_BYTES = 64, DIGEST_MAX = 48 };
 enum { WORDS_MAX = 512 }; /* that a polynomial may use */
 enum { POLYNOMIAL_MAX = (R_MAX + 7) / 8, PRIVATE_KEY_MAX = 4 * D_MAX + SHORT_BYTES + DIGEST_MAX };
 

@@ -7,13 +7,29 @@
 #include "generator.h"
 #include "wrong.h"
 
-/* A case of an entry without a level, or of a level that is refused, counts for both levels. */
-enum class { LEVEL_1, LEVEL_3, NO_LEVEL, CLASSES };
+/* A case of an entry without a level, or of a level that is refused, counts for all levels. */
+enum class { LEVEL_1, LEVEL_3, LEVEL_5, NO_LEVEL, CLASSES };
 
 static enum class class_of(const struct test_case *c)
 {
     bool takes_level = c->entry >= PRODUCT && c->entry != READ_RECORD;
-    return takes_level && c->level == 1 ? LEVEL_1 : takes_level && c->level == 3 ? LEVEL_3 : NO_LEVEL;
+    if (!takes_level || level_of(c->level) == NULL)
+        return NO_LEVEL;
+    return c->level == 1 ? LEVEL_1 : c->level == 3 ? LEVEL_3 : LEVEL_5;
+}
+
+/* Some readings are wrong at Level 5 alone. Others are right there: its packed keys have 16 bits a position and no pad,
+ * and its polynomials three pad bits. */
+static bool concerns(int reading, enum class class)
+{
+    static const int right_at_5[] = {W_PACK_16, W_PACK_NEW_BYTE, W_UNPACK_NO_PAD, W_UNPACK_LAST_PAD,
+                                     W_UNPACK_FOUR_FIRST, W_PAD_FROM_5};
+    if (reading >= W_PAD_FROM_3 && class != LEVEL_5)
+        return false;
+    for (size_t i = 0; i < sizeof right_at_5 / sizeof right_at_5[0]; i++)
+        if (reading == right_at_5[i] && class == LEVEL_5)
+            return false;
+    return true;
 }
 
 struct line {
@@ -31,8 +47,8 @@ static void usage(void)
     fputs("usage: tells CASES                              a table: the first case that tells each wrong reading\n"
           "       tells --search LEVEL KIND WEIGHT FROM TO  the wrong readings that each numbered decoder case tells\n"
           "KIND: 0 random error, 1 and a stray bit, 2 under a key of close positions, 3 at the key's own positions,\n"
-          "4 under a key of a window.\n"
-          "The first fails unless each reading is told at both levels, or by a case that has no good level.\n",
+          "4 under a key of a window; 5 an honest opening under such a key, of any WEIGHT.\n"
+          "The first fails unless each reading is told at every level that it concerns, or by a case that has no good level.\n",
           stdout);
 }
 
@@ -71,35 +87,38 @@ static void load(const char *path)
     fclose(file);
 }
 
-/* Whether the cases found tell a reading, at both levels where it has to do with levels. */
-static bool enough(const unsigned long first[CLASSES])
+/* Whether the cases found tell a reading, at each level that it concerns where it has to do with levels. */
+static bool enough(int reading, const unsigned long first[CLASSES])
 {
-    return first[NO_LEVEL] != 0 || (first[LEVEL_1] != 0 && first[LEVEL_3] != 0);
+    bool each = true;
+    for (int class = LEVEL_1; class < NO_LEVEL; class++)
+        each = each && (first[class] != 0 || !concerns(reading, (enum class)class));
+    return first[NO_LEVEL] != 0 || each;
 }
 
 /* The first case of each class that tells the reading, 0 for none; looks no further than to have enough. */
 static bool find_first(int reading, unsigned long first[CLASSES])
 {
-    for (unsigned long i = 0; i < count && !enough(first); i++) {
+    for (unsigned long i = 0; i < count && !enough(reading, first); i++) {
         enum class class = class_of(&lines[i].test);
         if (first[class] == 0 && is_told(&lines[i], reading))
             first[class] = i + 1;
     }
-    return enough(first);
+    return enough(reading, first);
 }
 
 static void print_case(unsigned long ordinal)
 {
     if (ordinal == 0)
-        printf("%7s", "-");
+        printf("%8s", "-");
     else
-        printf("%7lu", ordinal);
+        printf("%8lu", ordinal);
 }
 
 static bool table(void)
 {
     int missing = 0;
-    printf("wrong Level 1 Level 3 neither  (first case that tells it)\n");
+    printf("wrong Level 1 Level 3 Level 5    none  (first case that tells it)\n");
     for (int reading = 1; reading < W_COUNT; reading++) {
         unsigned long first[CLASSES] = {0};
         bool told = find_first(reading, first);
@@ -120,7 +139,8 @@ static uint32_t number(const char *text)
 
 static bool of_decoder(int reading)
 {
-    return (reading >= W_MINUS_P && reading <= W_WEIGHT_T) || reading == W_SLOPE || reading == W_LEAST;
+    return (reading >= W_MINUS_P && reading <= W_WEIGHT_T) || reading == W_SLOPE || reading == W_LEAST
+           || (reading >= W_SLOPE_OF_3 && reading <= W_MASKED_OF_3);
 }
 
 static void search(char **argv)
@@ -128,10 +148,13 @@ static void search(char **argv)
     static struct line line;
     const struct level *v = level_of(number(argv[0]));
     uint32_t kind = number(argv[1]), weight = number(argv[2]), to = number(argv[4]);
-    if (v == NULL || kind >= ERROR_KINDS || weight > (kind == OWN_PATTERN ? v->d : v->r))
+    if (v == NULL || kind > ERROR_KINDS || weight > (kind == OWN_PATTERN ? v->d : v->r))
         refuse(program, "no such level, kind or weight", "");
     for (uint32_t n = number(argv[3]); n < to; n++) {
-        case_decode_numbered(&line.test, v, (enum error_kind)kind, weight, n);
+        if (kind == ERROR_KINDS)
+            case_open_numbered(&line.test, v, n);
+        else
+            case_decode_numbered(&line.test, v, (enum error_kind)kind, weight, n);
         run_right(&line);
         printf("%lu: answer %lu, told:", (unsigned long)n, (unsigned long)line.right.answer);
         for (int reading = 1; reading < W_COUNT; reading++)

@@ -96,6 +96,9 @@ static void proved_examples(void)
     check_threshold(3, 7168, 52, "P10");
     check_threshold(3, 7169, 53, "P10");
     check_threshold(1, 12323, 99, "P11");
+    check_threshold(5, 13452, 69, "S = 13452 gives 69 at Level 5");
+    check_threshold(5, 13453, 70, "S = 13453 gives 70 at Level 5");
+    check_threshold(5, 40973, 180, "S = r gives 180 at Level 5");
     count_all(7, 3, h0, &residual, count);
     check(count[0] == 3 && count[1] == 1 && count[2] == 1, "P12");
 }
@@ -322,7 +325,7 @@ static void early_is_full(const struct level *v, uint32_t number)
 {
     static struct test_case c;
     static struct result full, early;
-    case_decode_numbered(&c, v, PLAIN, v->t + number, number);
+    case_decode_numbered(&c, v, PLAIN, v->t + (v->number == 5 ? 2 * number : number), number);
     case_run(&c, &full);
     c.entry = DECODE_EARLY;
     case_run(&c, &early);
@@ -384,7 +387,7 @@ int main(int argc, char **argv)
     known_tag();
     run_examples();
     record_example();
-    for (uint32_t level = 1; level <= 3; level += 2) {
+    for (uint32_t level = 1; level <= 5; level += 2) {
         ring_laws(level_of(level));
         for (unsigned number = 0; number < 5; number++)
             round_trip(level_of(level), number);
@@ -395,6 +398,7 @@ int main(int argc, char **argv)
     }
     packed_keys(1, 313, 4);
     packed_keys(3, 451, 6);
+    packed_keys(5, 612, 0);
     if (argc == 3)
         published_vectors(argv[1], argv[2]);
     printf("%lu checks, %lu failed\n", checks, failures);

@@ -78,7 +78,8 @@ static void triple_decoding(struct file *file, struct source *g, const struct le
     } while (report.decoded[rounds] == 0);
 }
 
-/* Both levels: 1 to 5 rounds, and undecoded; 0, 1 and 2 replaced positions. */
+/* Levels 1 and 3: 1 to 5 rounds, and undecoded; 0, 1 and 2 replaced positions. Then two of Level 5: 1 round under a zero
+ * public key, and an honest one. */
 static void committed(void)
 {
     struct source g = source_of("bench report");
@@ -90,6 +91,10 @@ static void committed(void)
         }
     for (uint32_t level = 1; level <= 3; level += 2) {
         random_triple(&file, &g, level_of(level), random_key, OTHERS, 1);
+        emit(&file);
+    }
+    for (uint32_t rounds = 1; rounds <= 2; rounds++) {
+        triple_decoding(&file, &g, level_of(5), rounds, rounds);
         emit(&file);
     }
 }
@@ -106,7 +111,7 @@ static void damage(struct file *file, struct source *g, const struct level *v)
     case 1: head[4] = (uint8_t)source_below(g, 9); break;
     case 2: head[5] = (uint8_t)source_below(g, 6); break;
     case 3: file->start[3] = source_below(g, (uint32_t)file->start[3]); break;
-    case 4: file->bytes[pad] |= (uint8_t)(8u << source_below(g, 5)); break;
+    case 4: file->bytes[pad] |= (uint8_t)(1u << (v->r % 8 + source_below(g, 8 - v->r % 8))); break;
     case 5: file->bytes[position + 1] = 0xff; break;
     default: file->bytes[pad] |= 0x80, file->bytes[position + 1] = 0xff; break;
     }
@@ -119,7 +124,7 @@ static void random_file(const char *seed)
     uint32_t damaged = source_below(&g, 3);
     for (uint32_t i = 0; i < 3; i++) {
         struct file file;
-        const struct level *v = level_of(1 + 2 * source_below(&g, 2));
+        const struct level *v = level_of(1 + 2 * source_below(&g, 3));
         enum owner owner = (enum owner)source_below(&g, 3);
         uint32_t near = source_below(&g, 2);
         random_triple(&file, &g, v, near == 0 ? window_key : random_key, owner, source_below(&g, 3));

@@ -88,7 +88,7 @@
     X(SLIDE_SIZES, "record: polynomial lengths rounded down") \
     X(OPEN_E0, "opening compares e0 alone") \
     X(OPEN_E1, "opening compares e1 alone") \
-    X(SLOPE, "threshold: a slope one higher") \
+    X(SLOPE, "threshold: a slope higher by 10^-7") \
     X(LEAST, "threshold: a lower bound one lower") \
     X(PACK_HIGH_FIRST, "packed key: a position's highest bit first") \
     X(PACK_BYTE_HIGH, "packed key: a byte filled from its highest bit") \
@@ -166,7 +166,18 @@
     X(ROTATE_OWN_D, "rotating: D is worked out anew") \
     X(ROTATE_15_FIRST, "rotating: 15 before 4") \
     X(ROTATE_MODULO, "rotating: k is taken modulo r") \
-    X(ROTATE_BY_R, "rotating: k = r is taken")
+    X(ROTATE_BY_R, "rotating: k = r is taken") \
+    X(PAD_FROM_5, "pad: bits 5 to 7 of the last byte at every level") \
+    X(PAD_FROM_3, "pad: bits 3 to 7 of the last byte at every level") \
+    X(NO_LEVEL_5, "Level 5 is not known") \
+    X(RECORD_NO_5, "record: Level 5 is not known") \
+    X(MAP_NO_5, "map: Level 5 is not known") \
+    X(SLOPE_OF_3, "Level 5: Level 3's slope") \
+    X(SLOPE_ROUNDED, "Level 5: slope and offset over 10^7, as at the other levels") \
+    X(MASKED_OF_3, "Level 5: Level 3's masked bound") \
+    X(MASK_OF_3, "Level 5: Level 3's mask of a word") \
+    X(PACK_15, "packed key: at most 15 bits a position") \
+    X(PACK_PAD_5, "unpacking: at Level 5 the last byte's highest bit is a pad bit")
 
 #define WRONG_NAME(name, text) W_##name,
 enum { W_NONE, WRONG_READINGS(WRONG_NAME) W_COUNT };
