@@ -69,6 +69,19 @@ static void refused(struct source *g, const struct level *v)
     emit(&c);
 }
 
+/* At Level 5 a few: turned far, with a D that is not the public key's; past the circle; 4 before 15. */
+static void few(struct source *g, const struct level *v)
+{
+    struct key key = random_key(g, v);
+    struct test_case c;
+    source_bytes(g, key.digest, SHORT_BYTES);
+    emit_rotation(v, &key, v->r / 2);
+    emit_rotation(v, &key, v->r);
+    case_rotate_key(&c, v, &key, v->r);
+    set_position(&c, 1, v->d - 1, v->r);
+    emit(&c);
+}
+
 void committed_rotations(void)
 {
     struct source g = source_of("committed rotations");
@@ -78,5 +91,5 @@ void committed_rotations(void)
         positions(&g, v);
         refused(&g, v);
     }
-    ends(&g, level_of(5));
+    few(&g, level_of(5));
 }

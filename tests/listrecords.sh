@@ -49,6 +49,12 @@ bytes '\334\001\000\000\003\003'; zeros 476
 bytes '\053\014\000\000\004\003'; zeros 3115
 bytes '\040\000\000\000\005\003'; zeros 32
 bytes '\040\000\000\000\006\003'; zeros 32
+bytes '\100\000\000\000\001\005'; zeros 64
+bytes '\002\024\000\000\002\005'; zeros 5122
+bytes '\144\002\000\000\003\005'; zeros 612
+bytes '\042\024\000\000\004\005'; zeros 5154
+bytes '\040\000\000\000\005\005'; zeros 32
+bytes '\040\000\000\000\006\005'; zeros 32
 expect 'every kind' <<'LINES'
 1 0 1 1 64
 2 0 1 2 1541
@@ -62,10 +68,16 @@ expect 'every kind' <<'LINES'
 10 0 3 4 3115
 11 0 3 5 32
 12 0 3 6 32
+13 0 5 1 64
+14 0 5 2 5122
+15 0 5 3 612
+16 0 5 4 5154
+17 0 5 5 32
+18 0 5 6 32
 LINES
 
-# Unknown kinds, whole and of length 0: things 0 and 7, levels 0, 2 and 5; and one that is high byte first.
-for kind in '\000\001' '\007\001' '\005\000' '\005\002' '\005\005' '\001\005'; do
+# Unknown kinds, whole and of length 0: things 0 and 7, levels 0, 2, 4 and 6; and one that is high byte first.
+for kind in '\000\001' '\007\001' '\007\005' '\005\000' '\005\002' '\005\004' '\005\006' '\001\006'; do
     bytes '\000\000\000\000'; bytes "$kind"
     echo '1 8 0 0 0' | expect "kind $kind"
 done
@@ -76,10 +88,12 @@ bytes '\377\377\377\377\005\001'; zeros 32; echo '1 7 0 0 0' | expect 'a length 
 bytes '\040\000\000\001\005\001'; zeros 32; echo '1 7 0 0 0' | expect 'a length of 2^24 + 32'
 bytes '\040\000\000\000\005\001'; zeros 31; echo '1 7 0 0 0' | expect 'a body without its last byte'
 
-# A known kind with another length, the other level's included; and 8 before 9.
+# A known kind with another length, other levels' included; and 8 before 9.
 bytes '\037\000\000\000\005\001'; zeros 31; echo '1 9 0 0 0' | expect 'a byte too few'
 bytes '\041\000\000\000\005\001'; zeros 33; echo '1 9 0 0 0' | expect 'a byte too many'
-bytes '\005\006\000\000\002\003'; zeros 1541; echo '1 9 0 0 0' | expect 'the length of the other level'
+bytes '\005\006\000\000\002\003'; zeros 1541; echo '1 9 0 0 0' | expect 'the length of another level'
+bytes '\013\014\000\000\002\005'; zeros 3083; echo '1 9 0 0 0' | expect "Level 3's length at Level 5"
+bytes '\001\024\000\000\002\005'; zeros 5121; echo '1 9 0 0 0' | expect 'a byte too few at Level 5'
 bytes '\074\001\000\000\003\001'; zeros 316; echo '1 9 0 0 0' | expect 'a private key without D'
 bytes '\041\000\000\000\005\002'; zeros 33; echo '1 8 0 0 0' | expect 'an unknown kind of a wrong length'
 

@@ -37,10 +37,11 @@ chain() {
     same 'the way back' "$turned" "$key"
 }
 
-for level in 1 3; do
+for level in 1 3 5; do
     case $level in
     1) r=12323 public=1541 private=348 ciphertext=1573 ;;
     3) r=24659 public=3083 private=476 ciphertext=3115 ;;
+    5) r=40973 public=5122 private=612 ciphertext=5154 ;;
     esac
     seed=$(printf '%02x' $(seq 1 64))
     message=$(printf '%02x' $(seq 101 132))
