@@ -15,11 +15,11 @@ enum { DEFAULT_MILLISECONDS = 500, MOST_MILLISECONDS = 60000, RUNS = 9, STACK_BY
 
 static const char program[] = "bench";
 
-/* The buffers of an exchange, as long as Level 3 needs them. */
+/* The buffers of an exchange, as long as Level 5 needs them. */
 static struct {
     uint8_t seed[BIKE_SEED_BYTES], message[BIKE_MESSAGE_BYTES], session_key[BIKE_SESSION_KEY_BYTES];
-    uint8_t public_key[BIKE_LEVEL_3_PUBLIC_KEY_BYTES], private_key[BIKE_LEVEL_3_PRIVATE_KEY_BYTES];
-    uint8_t ciphertext[BIKE_LEVEL_3_CIPHERTEXT_BYTES], report[BIKE_REPORT_BYTES];
+    uint8_t public_key[BIKE_LEVEL_5_PUBLIC_KEY_BYTES], private_key[BIKE_LEVEL_5_PRIVATE_KEY_BYTES];
+    uint8_t ciphertext[BIKE_LEVEL_5_CIPHERTEXT_BYTES], report[BIKE_REPORT_BYTES];
 } lent;
 
 /* A work of one of the two at a level. */
@@ -157,8 +157,8 @@ int main(int argc, char **argv)
     if (emulator != NULL && emulator[0] != '\0')
         puts("Under an emulator: the times are the emulator's, and say little about the code.");
     printf("Processor time of a call in milliseconds, median and least of %d runs.\n", RUNS);
-    bench(level_of(1), milliseconds);
-    bench(level_of(3), milliseconds);
+    for (uint32_t level = 1; level <= 5; level += 2)
+        bench(level_of(level), milliseconds);
     puts("Decoding has no door of its own; it is most of opening.");
     return 0;
 }

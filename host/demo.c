@@ -203,6 +203,31 @@ static void maps(struct controller *blue, const struct app *to_blue, struct cont
     say_map(red);
 }
 
+/* The same at the highest level: a karting series' controller, whose code is longer. */
+static void highest_level(void)
+{
+    static uint8_t public_key[BIKE_LEVEL_5_PUBLIC_KEY_BYTES], private_key[BIKE_LEVEL_5_PRIVATE_KEY_BYTES];
+    static uint8_t ciphertext[BIKE_LEVEL_5_CIPHERTEXT_BYTES];
+    uint8_t seed[BIKE_SEED_BYTES], message[BIKE_MESSAGE_BYTES], report[BIKE_REPORT_BYTES];
+    uint8_t sent[SESSION], opened[SESSION];
+    printf("\nA karting series has Level 5.\n");
+    random_bytes(seed, sizeof seed);
+    random_bytes(message, sizeof message);
+    uint32_t answer = bike_make_key(BIKE_LEVEL_5, seed, sizeof seed, public_key, sizeof public_key, private_key,
+                                    sizeof private_key, report, sizeof report);
+    bike_wipe_stack();
+    say_answer("the series' kart", "makes its key pair", answer);
+    answer |= bike_wrap(BIKE_LEVEL_5, public_key, sizeof public_key, message, sizeof message, ciphertext,
+                        sizeof ciphertext, sent, SESSION);
+    bike_wipe_stack();
+    say_key("phone", sent);
+    answer |= bike_open(BIKE_LEVEL_5, private_key, sizeof private_key, ciphertext, sizeof ciphertext, opened, SESSION);
+    bike_wipe_stack();
+    say_key("the series' kart", opened);
+    must(answer == BIKE_DONE && memcmp(sent, opened, SESSION) == 0, "two keys");
+    printf("  Both have the same key.\n");
+}
+
 int main(int argc, char **argv)
 {
     static struct controller blue = {.name = "the blue kart", .number = 7};
@@ -221,5 +246,6 @@ int main(int argc, char **argv)
     damaged(&app, &red);
     exchange(&app, &red);
     maps(&blue, &to_blue, &red, &app);
+    highest_level();
     return 0;
 }

@@ -11,23 +11,30 @@
 
 enum { KART = 7 };
 
-/* The buffers of an exchange, as long as Level 3 needs them, and of a map. */
+/* The buffers of an exchange, as long as Level 5 needs them, and of a map. */
 static struct {
     uint8_t seed[BIKE_SEED_BYTES], message[BIKE_MESSAGE_BYTES], session_key[BIKE_SESSION_KEY_BYTES];
-    uint8_t public_key[BIKE_LEVEL_3_PUBLIC_KEY_BYTES], private_key[BIKE_LEVEL_3_PRIVATE_KEY_BYTES];
-    uint8_t ciphertext[BIKE_LEVEL_3_CIPHERTEXT_BYTES], report[BIKE_REPORT_BYTES];
+    uint8_t public_key[BIKE_LEVEL_5_PUBLIC_KEY_BYTES], private_key[BIKE_LEVEL_5_PRIVATE_KEY_BYTES];
+    uint8_t ciphertext[BIKE_LEVEL_5_CIPHERTEXT_BYTES], report[BIKE_REPORT_BYTES];
     uint8_t map[BIKE_MAP_BYTES], record[BIKE_MAP_RECORD_BYTES];
 } lent;
 
 struct lengths {
     uint32_t level;
     size_t public_key, private_key, ciphertext;
+    uint8_t last; /* the most that the last byte of a polynomial can be */
 };
 
 static const struct lengths levels[] = {
-    {BIKE_LEVEL_1, BIKE_LEVEL_1_PUBLIC_KEY_BYTES, BIKE_LEVEL_1_PRIVATE_KEY_BYTES, BIKE_LEVEL_1_CIPHERTEXT_BYTES},
-    {BIKE_LEVEL_3, BIKE_LEVEL_3_PUBLIC_KEY_BYTES, BIKE_LEVEL_3_PRIVATE_KEY_BYTES, BIKE_LEVEL_3_CIPHERTEXT_BYTES},
+    {BIKE_LEVEL_1, BIKE_LEVEL_1_PUBLIC_KEY_BYTES, BIKE_LEVEL_1_PRIVATE_KEY_BYTES, BIKE_LEVEL_1_CIPHERTEXT_BYTES,
+     0x07},
+    {BIKE_LEVEL_3, BIKE_LEVEL_3_PUBLIC_KEY_BYTES, BIKE_LEVEL_3_PRIVATE_KEY_BYTES, BIKE_LEVEL_3_CIPHERTEXT_BYTES,
+     0x07},
+    {BIKE_LEVEL_5, BIKE_LEVEL_5_PUBLIC_KEY_BYTES, BIKE_LEVEL_5_PRIVATE_KEY_BYTES, BIKE_LEVEL_5_CIPHERTEXT_BYTES,
+     0x1f},
 };
+
+enum { LEVELS = sizeof levels / sizeof levels[0] };
 
 /* Whether seed, message, private key and session key are marked. */
 static bool marked;
@@ -93,7 +100,7 @@ static void spoil(const struct lengths *n, int kind)
         lent.ciphertext[100] ^= 1;
     if (kind == NOISE)
         fill(lent.ciphertext, n->ciphertext);
-    lent.ciphertext[n->public_key - 1] &= 7;
+    lent.ciphertext[n->public_key - 1] &= n->last;
 }
 
 static void open(const struct lengths *n)
@@ -129,7 +136,7 @@ static void maps(const struct lengths *n)
 /* Every door at every level, a fresh message for each kind of ciphertext. */
 static void all_doors(void)
 {
-    for (size_t i = 0; i < sizeof levels / sizeof levels[0]; i++) {
+    for (int i = 0; i < LEVELS; i++) {
         make_key(&levels[i]);
         for (int kind = GOOD; kind < KINDS; kind++) {
             wrap(&levels[i]);
@@ -143,7 +150,11 @@ static void all_doors(void)
 /* The counter looks at the opening alone. */
 static void one_opening(const char *level, const char *name)
 {
-    const struct lengths *n = &levels[strcmp(level, "1") != 0];
+    const struct lengths *n = levels;
+    while (n < levels + LEVELS && n->level != strtoul(level, NULL, 10))
+        n++;
+    if (n == levels + LEVELS)
+        fail("there is no such level");
     int kind = GOOD;
     while (kind < KINDS && strcmp(kinds[kind], name) != 0)
         kind++;

@@ -1,4 +1,4 @@
-/* BIKE at Levels 1 and 3, as the archive libexchange.a has it: make a key pair, wrap a message to a public key, open a ciphertext.
+/* BIKE at Levels 1, 3 and 5, as the archive libexchange.a has it: make a key pair, wrap a message to a public key, open a ciphertext.
  *
  * Buffers. The caller owns every buffer, and the library keeps none: it holds no state, allocates nothing and may be called from
  * several threads at once. A buffer is a pointer and its length in bytes, and must have exactly the length that is named below.
@@ -16,7 +16,7 @@
  * of them twice. Seed, private key, message and session key are secret; public key and ciphertext are not. docs/SECURITY.md says what
  * is kept from whom, and what an app does after each answer.
  *
- * Stack. A call takes less than BIKE_STACK_BYTES at either level (host/run bench measures it), and leaves copies of its secrets
+ * Stack. A call takes less than BIKE_STACK_BYTES at every level (host/run bench measures it), and leaves copies of its secrets
  * there: bike_wipe_stack overwrites them. */
 #ifndef BIKE_H
 #define BIKE_H
@@ -43,14 +43,20 @@ enum {
     BIKE_LEVEL_3 = 3,
     BIKE_LEVEL_3_PUBLIC_KEY_BYTES = 3083,
     BIKE_LEVEL_3_PRIVATE_KEY_BYTES = 476,
-    BIKE_LEVEL_3_CIPHERTEXT_BYTES = 3115
+    BIKE_LEVEL_3_CIPHERTEXT_BYTES = 3115,
+
+    BIKE_LEVEL_5 = 5,
+    BIKE_LEVEL_5_PUBLIC_KEY_BYTES = 5122,
+    BIKE_LEVEL_5_PRIVATE_KEY_BYTES = 612,
+    BIKE_LEVEL_5_CIPHERTEXT_BYTES = 5154
 };
 
 enum {
     BIKE_DONE = 0,
-    BIKE_NO_LEVEL = 1,     /* the level is neither 1 nor 3 */
+    BIKE_NO_LEVEL = 1,     /* a level other than 1, 3 and 5 */
     BIKE_BAD_LENGTH = 2,   /* a buffer, input or output, has a wrong length */
-    BIKE_BAD_PAD = 3,      /* the public key or the ciphertext has one of the 5 upper bits of byte 1540 (3082) set */
+    BIKE_BAD_PAD = 3,      /* a pad bit is set in the public key or the ciphertext: one of the 5 upper bits of byte 1540
+                            * at Level 1 or 3082 at Level 3, of the 3 upper bits of byte 5121 at Level 5 */
     BIKE_BAD_POSITION = 4, /* a position in the private key is too large, or not larger than the one before it */
     BIKE_NO_INVERSE = 5,   /* a polynomial has no inverse: no function of this header gives it, which is proved */
     BIKE_NO_WORDS = 10     /* the seed's words ran out before the key had its positions: take another seed */
