@@ -6,6 +6,7 @@ use mathlib.Core.List.{List}
 use Prim.Native.Nat.{ℕ, _+_, _-_, _≤_, _<_}
 use lib.Dec.{eqb}
 use lib.ListN.{length, drop}
+use Rattle.ring.specs.inner.Sizes.{mostCiphertextBytes}
 use Rattle.exchange.specs.Records.{bodyOf, kindOf, knownKind}
 use Rattle.batch.specs.Report.{waited}
 use Rattle.batch.specs.declared.contents.Gain.{Gain}
@@ -16,9 +17,9 @@ use Rattle.batch.specs.declared.records.Run.the-variants.{Whole, Faulty}
 use Rattle.batch.specs.declared.triple.Look.{Look}
 use Rattle.batch.specs.declared.triple.Look.the-variants.{Known, Waits}
 
--- no record of a known kind is longer, Level 5 included; with `enough` bytes at hand, no triple needs more to be judged
+-- no record of a known kind is longer; with `enough` bytes at hand, no triple needs more to be judged
 abbrev pub mostBody : ℕ
-mostBody = 5154
+mostBody = mostCiphertextBytes
 
 abbrev pub mostRecord : ℕ
 mostRecord = 6 + mostBody
