@@ -1,5 +1,6 @@
 // "Numbers of the two levels", and of CR 12's third: a row for each level.
 ghost use mathlib.Core.Path.{_≡_};
+ghost use Prim.Native.Nat.{_/_};
 ghost use Rattle.ring.specs.Levels;
 ghost use Rattle.ring.specs.Levels.{levelOf};
 ghost use Rattle.ring.specs.inner.Rows.{row};
@@ -59,4 +60,14 @@ pub fn level_of(level: u32) -> Level
         divisor: 10000000,
         least: 36,
     }
+}
+
+// n over the level's divisor, which is written out: a division by a variable has a jump on the dividend.
+pub fn divided(level: u32, n: usize) -> usize
+    ensures { λ q. ⌜ q ≡ n / levelOf level .divisor ⌝ }
+{
+    if level == 5 {
+        return n / 100000000;
+    }
+    n / 10000000
 }

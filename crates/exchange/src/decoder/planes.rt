@@ -209,8 +209,8 @@ pub fn counters(r: usize, positions: &[u16], d: usize, f: &[u8]) -> [u64; COUNTE
 }
 
 // All bits where a digit of the bound is 0, else none. A bound that the planes do not hold is as the largest number
-// that they do, which no counter reaches.
-fn masks(bound: u8) -> [u64; PLANES]
+// that they do, which no counter reaches. Of a u8 the compiler would make its highest digit a jump.
+fn masks(bound: u16) -> [u64; PLANES]
     ensures { λ clear. ⌜ ((k e : ℕ) → k < planes → e < 64 → bitAt (getD clear k 0) e ≡ not (bitAt bound k || bitAt bound planes)) ⌝ }
 {
     let b = bound as u64;
@@ -251,8 +251,8 @@ fn compared(p: &[u64], clear: [u64; PLANES], n: usize) -> [u64; WORDS]
 }
 
 // The bits below r whose counter reaches the bound.
-pub fn reaching(r: usize, p: &[u64], bound: u8) -> [u64; WORDS]
-    requires { ⌜ (r < wordBits) × (length (now p) ≡ planesWords) × ((j : ℕ) → j < r → counterAt (now p) j ≤ mostD) ⌝ }
+pub fn reaching(r: usize, p: &[u64], bound: u16) -> [u64; WORDS]
+    requires { ⌜ (r < wordBits) × (length (now p) ≡ planesWords) × (bound < 256) × ((j : ℕ) → j < r → counterAt (now p) j ≤ mostD) ⌝ }
     ensures { λ x. ⌜ bits 64 x ≡ (λ j. ltb j r && leb bound (counterAt (now (p .entry)) j)) ⌝ }
 {
     cut(r, compared(p, masks(bound), r / 64 + 1))

@@ -11,6 +11,7 @@ use crate::masks;
 use ring::WORDS;
 use ring::frame::cut;
 use ring::frame::zeros;
+use ring::level::divided;
 use ring::level::level_of;
 use ring::size;
 use ring::words;
@@ -80,8 +81,9 @@ fn turned(level: u32, key: Key, s: [u64; WORDS], e: WordPair, f: &mut [u8]) -> S
 }
 
 // The bits of one half that reach each of two bounds, from the same counters.
-fn half_marks(r: usize, positions: &[u16], d: usize, f: &[u8], high: u8, low: u8) -> HalfMarked
-    requires { ⌜ (r < wordBits) × (d ≤ length (now positions)) × (d ≤ mostD) ⌝ ∗ ⌜ ((i : ℕ) → i < d → getD (now positions) i 0 < r) ⌝ ∗ ⌜ Room (now f) ⌝ }
+fn half_marks(r: usize, positions: &[u16], d: usize, f: &[u8], high: u16, low: u16) -> HalfMarked
+    requires { ⌜ (r < wordBits) × (d ≤ length (now positions)) × (d ≤ mostD) ⌝ ∗ ⌜ ((i : ℕ) → i < d → getD (now positions) i 0 < r) ⌝
+        ∗ ⌜ Room (now f) ⌝ ∗ ⌜ (high < 256) × (low < 256) ⌝ }
     ensures { λ m. ⌜ ((bits 64 (m .high) ≡ (λ j. ltb j r && leb high (total d (λ i. bit (bits 8 (now (f .entry)) (8 * rowAt (getD (now (positions .entry)) i 0) + j))))))
         × (bits 64 (m .low) ≡ (λ j. ltb j r && leb low (total d (λ i. bit (bits 8 (now (f .entry)) (8 * rowAt (getD (now (positions .entry)) i 0) + j))))))) ⌝ }
 {
@@ -92,8 +94,8 @@ fn half_marks(r: usize, positions: &[u16], d: usize, f: &[u8], high: u8, low: u8
 }
 
 // The bits of both halves that reach each of two bounds in a residual, whose rows are made in f.
-fn marks(level: u32, key: Key, x: [u64; WORDS], bound: u8, other: u8, f: &mut [u8]) -> Marked
-    requires { ⌜ Good (levelOf level) key ⌝ ∗ ⌜ InRing (levelOf level .r) (bits 64 x) ⌝ ∗ ⌜ Room (now f) ⌝ }
+fn marks(level: u32, key: Key, x: [u64; WORDS], bound: u16, other: u16, f: &mut [u8]) -> Marked
+    requires { ⌜ Good (levelOf level) key ⌝ ∗ ⌜ InRing (levelOf level .r) (bits 64 x) ⌝ ∗ ⌜ Room (now f) ⌝ ∗ ⌜ (bound < 256) × (other < 256) ⌝ }
     ensures { λ m. ⌜ (pairOf (m .high) ≡ Decoder.reaching (levelOf level .r) (keyOf (levelOf level) key) (bits 64 x) bound)
         × (pairOf (m .low) ≡ Decoder.reaching (levelOf level .r) (keyOf (levelOf level) key) (bits 64 x) other) ⌝ ∗ ⌜ Room (now (f .exit)) ⌝ }
 {
@@ -120,16 +122,16 @@ fn marks(level: u32, key: Key, x: [u64; WORDS], bound: u8, other: u8, f: &mut [u
 }
 
 // The threshold of a residual of weight s.
-fn threshold(level: u32, s: usize) -> u8
+fn threshold(level: u32, s: usize) -> u16
     requires { ⌜ s ≤ levelOf level .r ⌝ }
-    ensures { λ t. ⌜ t ≡ Decoder.threshold (levelOf level) s ⌝ }
+    ensures { λ t. ⌜ (t ≡ Decoder.threshold (levelOf level) s) × (t < 256) ⌝ }
 {
     let l = level_of(level);
-    let t = (l.slope * s + l.offset) / l.divisor;
+    let t = divided(level, l.slope * s + l.offset);
     if t < l.least {
-        return l.least as u8;
+        return l.least as u16;
     }
-    t as u8
+    t as u16
 }
 
 // The weight of a residual.
@@ -141,9 +143,9 @@ pub fn ones(level: u32, x: [u64; WORDS]) -> usize
 }
 
 // The bound of a round from the residual at its start.
-fn bound_of(level: u32, x: [u64; WORDS]) -> u8
+fn bound_of(level: u32, x: [u64; WORDS]) -> u16
     requires { ⌜ InRing (levelOf level .r) (bits 64 x) ⌝ }
-    ensures { λ t. ⌜ t ≡ Decoder.threshold (levelOf level) (Polynomials.weight (levelOf level .r) (bits 64 x)) ⌝ }
+    ensures { λ t. ⌜ (t ≡ Decoder.threshold (levelOf level) (Polynomials.weight (levelOf level .r) (bits 64 x))) × (t < 256) ⌝ }
 {
     threshold(level, ones(level, x))
 }
@@ -161,7 +163,7 @@ fn masked_step(
     ensures { λ t. ⌜ Carried (levelOf level) (keyOf (levelOf level) key) (bits 64 s) t
         × (pairOf (t .e) ≡ Decoder.maskedStep (levelOf level) (keyOf (levelOf level) key) (bits 64 s) (pairOf marked) (pairOf (st .e))) ⌝ ∗ ⌜ Room (now (f .exit)) ⌝ }
 {
-    let bound = ((size::key_weight(level) + 1) / 2 + 1) as u8;
+    let bound = ((size::key_weight(level) + 1) / 2 + 1) as u16;
     let x = st.x;
     let e = st.e;
     let again = marks(level, key, x, bound, bound, f);

@@ -41,7 +41,7 @@ returns c = fun-ext (λ j. go j (decLt j r))
     go j (yes below) =
         rw (lt-ltb j r below)
         (c .cut .ensures .1 j below ∙ c .before .compared .ensures .1 j (omega arith)
-        ∙ compares (start .args .bound) (c .before .before .masks .result) (start .args .p .now) j (start .fits .bound .fits) (c .before .before .masks .ensures) (start .pre .2 j below))
+        ∙ compares (start .args .bound) (c .before .before .masks .result) (start .args .p .now) j (start .pre .2) (c .before .before .masks .ensures) (start .pre .3 j below))
     go j (no above) = let past : r ≤ j = omega arith in rw (le-ltb j r past) (c .cut .ensures .0 j past)
 
 pub reaching-spec : {M : Type 1} → statement M

@@ -14,7 +14,8 @@ threshold-requires c κs =
     rw (c .ones .ensures) (weight-le (levelOf (c .before .args .level) .r) (bits 64 (c .before .args .x)))
 
 returns : tie.Need-returns
-returns c = c .threshold .ensures ∙ ap (λ (S : ℕ). threshold (levelOf (c .before .before .args .level)) S) (c .before .ones .ensures)
+returns c =
+    (c .threshold .ensures .0 ∙ ap (λ (S : ℕ). threshold (levelOf (c .before .before .args .level)) S) (c .before .ones .ensures), c .threshold .ensures .1)
 
 pub bound-of-spec : {M : Type 1} → statement M
 bound-of-spec = tie.close (tie.spec (λ c κs. search needs) threshold-requires returns)

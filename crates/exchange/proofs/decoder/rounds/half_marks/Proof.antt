@@ -26,9 +26,9 @@ pub half-marks-spec : {M : Type 1} → statement M
 half-marks-spec =
     tie.close
     (tie.spec
-    (λ c κs. c .before .before .pre)
+    (λ c κs. let pre = c .before .before .pre in (pre .0, (pre .1 .0, pre .1 .1 .0)))
     (λ c. search needs)
-    (λ c κs. (c .before .before .before .before .pre .0 .0, omega arith, c .before .counters .ensures .1))
+    (λ c κs. let pre = c .before .before .before .before .pre in (pre .0 .0, omega arith, pre .1 .1 .1 .0, c .before .counters .ensures .1))
     (λ c. search needs)
-    (λ c κs. (c .before .before .before .before .before .before .pre .0 .0, omega arith, c .before .before .before .counters .ensures .1))
+    (λ c κs. let pre = c .before .before .before .before .before .before .pre in (pre .0 .0, omega arith, pre .1 .1 .1 .1, c .before .before .before .counters .ensures .1))
     returns)

@@ -43,7 +43,7 @@ rows-requires : tie.Need-rows-requires
 rows-requires c κs =
     let start = c .before .before .before .before .before .before in
     let asked = ready (start .args .level) _ _ (start .args .key .h0) (c .before .before .before .before .block .ensures) (c .before .before .before .key-weight .ensures) (start .pre .0 .0) in
-    ((asked .0 .0, asked .0 .1), (rw (c .before .before .before .before .block .ensures) (start .pre .1 .0), start .pre .1 .1))
+    ((asked .0 .0, asked .0 .1), (rw (c .before .before .before .before .block .ensures) (start .pre .1 .0), start .pre .1 .1 .0))
 
 room : (c : tie.After-rows) → Room (c .rows .last .1 .1 .0)
 room c = (c .rows .ensures .0, c .rows .ensures .2)
@@ -52,13 +52,13 @@ half-marks-requires : tie.Need-half-marks-requires
 half-marks-requires c κs =
     let start = c .before .before .before .before .before .before .before .before .before .before .before in
     let asked = ready (start .args .level) _ _ (start .args .key .h0) (c .before .before .before .before .before .before .before .before .before .block .ensures) (c .before .before .before .before .before .before .before .before .key-weight .ensures) (start .pre .0 .0) in
-    ((asked .0 .1, asked .0 .2, asked .0 .3), (asked .1, room (c .before .before .before .before)))
+    ((asked .0 .1, asked .0 .2, asked .0 .3), (asked .1, (room (c .before .before .before .before), start .pre .1 .1 .1)))
 
 half-marks-requires-2 : tie.Need-half-marks-requires-2
 half-marks-requires-2 c κs =
     let start = c .before .before .before .before .before .before .before .before .before .before .before .before .before .before in
     let asked = ready (start .args .level) _ _ (start .args .key .h1) (c .before .before .before .before .before .before .before .before .before .before .before .before .block .ensures) (c .before .before .before .before .before .before .before .before .before .before .before .key-weight .ensures) (start .pre .0 .1) in
-    ((asked .0 .1, asked .0 .2, asked .0 .3), (asked .1, room (c .before .before .before .before .before .before .before)))
+    ((asked .0 .1, asked .0 .2, asked .0 .3), (asked .1, (room (c .before .before .before .before .before .before .before), start .pre .1 .1 .1)))
 
 returns : tie.Need-returns
 returns c =

@@ -55,7 +55,10 @@ masked-step-spec =
     (λ c. omega (arith, c .key-weight .ensures, sizes (c .before .before .args .level)))
     (λ c. search needs)
     (λ c. omega (arith, c .key-weight .ensures, sizes (c .before .before .args .level)))
-    (λ c κs. let start = c .before .before .before .before .before in (start .pre .0, (carried-in (start .args .level) _ _ _ (start .pre .1 .0 .0) (start .pre .1 .0 .1), start .pre .1 .1)))
+    (λ c κs.
+    let start = c .before .before .before .before .before in
+    let small = sizes (start .args .level) in
+    (start .pre .0, (carried-in (start .args .level) _ _ _ (start .pre .1 .0 .0) (start .pre .1 .0 .1), (start .pre .1 .1, (omega arith, omega arith)))))
     among-requires
     flipped-requires
     turned-requires

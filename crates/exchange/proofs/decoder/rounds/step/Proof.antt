@@ -19,7 +19,7 @@ bound-is : (c : tie.After-bound-of) →
 unfolding boundOf
 bound-is c =
     let l = levelOf (c .before .before .before .before .args .level) in
-    c .bound-of .ensures ∙ ap (λ (a : Poly). threshold l (weight (l .r) a)) (c .before .before .before .before .pre .1 .0 .1 .0)
+    c .bound-of .ensures .0 ∙ ap (λ (a : Poly). threshold l (weight (l .r) a)) (c .before .before .before .before .pre .1 .0 .1 .0)
 
 black-is : (c : tie.After-marks) →
     let start = c .before .before .before .before .before .before .args in
@@ -97,8 +97,11 @@ step-spec =
     tie.close
     (tie.spec
     (λ c κs. let start = c .before .before .before in carried-in (start .args .level) _ _ _ (start .pre .1 .0 .0) (start .pre .1 .0 .1))
-    (λ c. rw (c .bound-of .ensures) (threshold-least (c .before .before .before .before .args .level) _))
-    (λ c κs. let start = c .before .before .before .before .before in (start .pre .0, (carried-in (start .args .level) _ _ _ (start .pre .1 .0 .0) (start .pre .1 .0 .1), start .pre .1 .1)))
+    (λ c. rw (c .bound-of .ensures .0) (threshold-least (c .before .before .before .before .args .level) _))
+    (λ c κs.
+    let start = c .before .before .before .before .before in
+    let small = c .before .bound-of .ensures .1 in
+    (start .pre .0, (carried-in (start .args .level) _ _ _ (start .pre .1 .0 .0) (start .pre .1 .0 .1), (start .pre .1 .1, (small, omega (arith, small))))))
     flipped-requires
     turned-requires
     (λ c. c .before .before .before .turned .kept .1 .1 .1 .1 .0 ∙ c .before .before .before .before .before .before .before .before .before .before .marks .kept .1 .1 .1 .1 .1 .0)
