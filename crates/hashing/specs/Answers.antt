@@ -24,7 +24,8 @@ pub record Output : Type 0 where
 pub data Outcome : Type 0 where
   gives : ℕ → List (List ℕ) → Outcome
 
--- "The smallest number that applies is given": the reasons stand in rising order; 0, done, where none applies
+-- "The smallest number that applies is given": the reasons stand in the documents' order, which rises but for key making's 10 before
+-- 5; 0, done, where none applies
 unfoldable pub firstOf : List Reason → ℕ
 firstOf [] = 0
 firstOf (reason ∷ rest) = elim (reason .applies) [ true ↦ reason .number | false ↦ firstOf rest ]
