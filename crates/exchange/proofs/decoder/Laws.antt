@@ -244,12 +244,12 @@ threshold_least level s = omega (arith, threshold_above (level_of level) (facts 
 
 -- a key that was read from bytes: its polynomials, and what the test of its positions tells
 module _ (l : Level) (key : private_key.Key.Key) (bytes : List ℕ)
-    (read : ((length (key .h0) ≡ most_d) × (take l.d (key .h0) ≡ positions0 l bytes)) × ((length (key .h1) ≡ most_d) × (take l.d (key .h1) ≡ positions1 l bytes))) where
+    (read : ((length key.h0 ≡ most_d) × (take l.d key.h0 ≡ positions0 l bytes)) × ((length key.h1 ≡ most_d) × (take l.d key.h1 ≡ positions1 l bytes))) where
   pub read_secret : key_of l key ≡ secret l bytes
   unfolding secret
   read_secret = pair_path (ap support read.0.1) (ap support read.1.1)
 
-  pub read_good : {t : Bool} → t ≡ rising_from l.r 0 (take l.d (key .h0)) && rising_from l.r 0 (take l.d (key .h1)) → t ≡ good_key l bytes
+  pub read_good : {t : Bool} → t ≡ rising_from l.r 0 (take l.d key.h0) && rising_from l.r 0 (take l.d key.h1) → t ≡ good_key l bytes
   unfolding good_key
   read_good test = test ∙ ap₂ (λ (a b : List ℕ). rising_from l.r 0 a && rising_from l.r 0 b) read.0.1 read.1.1
 

@@ -13,14 +13,14 @@ use Rattle.exchange.specs.decoder.PrivateKey.{rising_from}
 
 -- the first d positions of each half
 abbrev pub key_of : Level → private_key.Key.Key → Pair
-key_of l key = record { half0 = support (take l.d (key .h0)); half1 = support (take l.d (key .h1)) }
+key_of l key = record { half0 = support (take l.d key.h0); half1 = support (take l.d key.h1) }
 
 -- room for the largest level, and the level's positions rise below r
 abbrev pub Rising : Level → List ℕ → Type 0
 Rising l h = (length h ≡ most_d) × (rising_from l.r 0 (take l.d h) ≡ true)
 
 abbrev pub Good : Level → private_key.Key.Key → Type 0
-Good l key = Rising l (key .h0) × Rising l (key .h1)
+Good l key = Rising l key.h0 × Rising l key.h1
 
 -- bit j of a half is coefficient j
 abbrev pub pair_of : halves.WordPair.WordPair → Pair

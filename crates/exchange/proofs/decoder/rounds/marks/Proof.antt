@@ -31,13 +31,13 @@ half level r d h f x bound at-r at-d rising rows is =
 
 -- and in both
 both : (level r d : ℕ) (key : private_key.Key.Key) (f : List ℕ) (x : Poly) (bound : ℕ) {m : Pair} → r ≡ (level_of level).r → d ≡ (level_of level).d → Good (level_of level) key → ByteRows r x f
-    → m.half0 ≡ (λ j. ltb j r && leb bound (total d (λ i. bit (bits 8 f (8 * row_at (get_or (key .h0) i 0) + j)))))
-    → m.half1 ≡ (λ j. ltb j r && leb bound (total d (λ i. bit (bits 8 f (8 * row_at (get_or (key .h1) i 0) + j)))))
+    → m.half0 ≡ (λ j. ltb j r && leb bound (total d (λ i. bit (bits 8 f (8 * row_at (get_or key.h0 i 0) + j)))))
+    → m.half1 ≡ (λ j. ltb j r && leb bound (total d (λ i. bit (bits 8 f (8 * row_at (get_or key.h1 i 0) + j)))))
     → m ≡ reaching (level_of level).r (key_of (level_of level) key) x bound
 both level r d key f x bound {m} at-r at-d good rows first second =
     reached (level_of level).r (key_of (level_of level) key) x bound {m = m}
-    (half level r d (key .h0) f x bound at-r at-d good.0 rows first)
-    (half level r d (key .h1) f x bound at-r at-d good.1 rows second)
+    (half level r d key.h0 f x bound at-r at-d good.0 rows first)
+    (half level r d key.h1 f x bound at-r at-d good.1 rows second)
 
 rows_requires : tie.Need-rows-requires
 rows_requires c κs =
