@@ -1,4 +1,6 @@
 // SHAKE256 and SHA3-384 of FIPS 202.
+#![tactic(auto)]
+
 pub mod fill;
 pub mod keccak;
 pub mod kmac;

@@ -2,7 +2,7 @@
 use mathlib.Core.Path.{◌≡◌, refl, sym, ap, ap₂, ◌∙◌, subst}
 use mathlib.Core.Bool.{Bool, true, false, not, xor, ◌&&◌, ◌||◌}
 use mathlib.Core.List.{List}
-use Prim.Native.Nat.{ℕ, zero, suc, ◌+◌, ◌-◌, ◌*◌, ◌/◌, ◌%◌, ◌^◌, ◌≤◌, ◌<◌}
+use Prim.Native.Nat.{ℕ, zero, suc, ◌+◌, ◌-◌, ◌*◌, ◌/◌, ◌%◌, ◌^◌, ◌<◌}
 use native.Mathlib.Nat.{mod-lt, lt_of_le_of_lt, le_trans, not-suc-le-zero, le_of_suc-le-suc}
 use native.Mathlib.Numerals.{add-one}
 use native.Mathlib.Omega.{arith}
@@ -11,7 +11,7 @@ use lib.Bits.{bit_and, bit_or, bit_xor, differ, xor_step, xor_comm, xor_zero_r, 
 use lib.Dec.{lit<}
 use lib.ListN.{length, get_or, set}
 use lib.Pow.{ones_split, ones_lt, high, low, shr_le, pow_pos, pow-add}
-use Rattle.hashing.specs.Keccak.{lane, plane, state, rotate, complement, parity_c, effect_d, theta, offset, rho, pi, chi, iota}
+use Rattle.hashing.specs.Keccak.{lane, plane, rotate, complement, parity_c, effect_d, theta, offset, rho, pi, chi, iota}
 use Rattle.hashing.specs.Lists.{tab, bit_at}
 use Rattle.hashing.specs.inner.Inverted.{turned, inverted, exchanged, chosen, Lanes}
 use Rattle.hashing.proofs.Lists.{length-tab, get_or-tab, tab-get_or, tab_ext}

@@ -6,11 +6,11 @@ use Prim.Native.Nat.{ℕ, zero, suc, ◌+◌, ◌-◌, ◌*◌, ◌/◌, ◌%◌
 use native.Mathlib.Nat.{mod-lt, add_comm}
 use native.Mathlib.Decide.{dec_lt}
 use native.Mathlib.Omega.{arith}
-use lib.Bits.{bit_or, bit_xor, bit_and, or_shifted}
+use lib.Bits.{bit_or, bit_xor, or_shifted}
 use lib.Dec.{lit<}
 use lib.ListN.{length, get_or, set, length-set}
 use lib.Pow.{shr-shr, shr_lt}
-use Rattle.hashing.specs.Keccak.{lane, plane, state, rotate, complement, parity_c, effect_d, theta, is_at, walk, offset_within, offset, rho, pi, chi, iota, rnd, rounds, keccak_f}
+use Rattle.hashing.specs.Keccak.{lane, plane, state, rotate, parity_c, effect_d, theta, is_at, walk, offset_within, offset, rho, pi, chi, iota, rnd, rounds, keccak_f}
 use Rattle.hashing.specs.Lists.{tab, bit_at}
 use Rattle.hashing.proofs.Words.{bit-or, bit-mod, bit_shl, bit_shl_below, bit_shr, bit_above, shl_mod}
 use Rattle.hashing.proofs.Lists.{length-tab, get_or-tab, tab-get_or}

@@ -1,0 +1,19 @@
+-- `row_3`: each lane from the plane that is held.
+use mathlib.Core.Path.{refl, ◌∙◌}
+use mathlib.Core.Bool.{true, false, xor}
+use lib.Dec.{lit<}
+use Rattle.hashing.specs.Keccak.{plane}
+use Rattle.hashing.specs.inner.Inverted.{turned, inverted}
+use Rattle.hashing.proofs.keccak.Laws.{five}
+use Rattle.hashing.proofs.keccak.Inverting.{column, effect, arriving, row-lane}
+use Rattle.hashing.proofs.keccak.row_3.Goals as goal
+
+pub returns : goal.returns
+unfolding plane turned inverted column effect arriving xor
+returns c =
+    let lawful = row-lane c.args.a.now _ 3 c.requires.fact_2 c.moved_row-b.ensures (lit< tt) in
+    five _ (c.both.ensures ∙ lawful 0 (lit< tt) false false refl)
+    (c.either.ensures ∙ lawful 1 (lit< tt) true false refl)
+    (rw c.inverse.ensures at c.either-2.ensures ∙ lawful 2 (lit< tt) true false refl)
+    (rw c.inverse-2.ensures at c.both-2.ensures ∙ lawful 3 (lit< tt) false true refl)
+    (c.either-3.ensures ∙ lawful 4 (lit< tt) true false refl)

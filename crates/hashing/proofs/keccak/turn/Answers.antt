@@ -1,0 +1,20 @@
+-- `hashing::keccak::turn`: after i turns the walk stands at step 6i.
+use mathlib.Core.Path.{◌≡◌, refl}
+use native.Mathlib.Omega.{arith}
+use Rattle.hashing.specs.Keccak.{offset}
+use Rattle.hashing.proofs.keccak.Walking.{stands_first}
+use Rattle.hashing.proofs.keccak.turn.Goals as goal
+
+pub returns : goal.returns
+unfolding offset
+returns c =
+    let last : c.loop-i.walk.t ≡ 24 = omega arith in rw last at c.loop-i.invariant.2.turned
+
+pub loop-i-init : goal.loop-i-init
+loop-i-init c = (omega arith, refl, stands_first _)
+
+pub six_walked-walk-requires : goal.six_walked-walk-requires
+six_walked-walk-requires c = record { fact_1 = c.loop-i.invariant.2; fact_2 = omega arith }
+
+pub loop-i-preserved : goal.loop-i-preserved
+loop-i-preserved c = (omega arith, omega arith, c.six_walked-walk.ensures.stands)
