@@ -1,7 +1,7 @@
 -- Where a walk from 2 by doubling modulo r meets no 1 before it has made r - 2 steps, the powers of 2 run through 1 to r - 1.
 -- Assumes nothing.
 use mathlib.Core.Path.{◌≡◌, sym, ap, ◌∙◌}
-use mathlib.Core.Bool.{Bool, true, false, not, ◌&&◌, true≢false}
+use mathlib.Core.Bool.{Bool, true, not, ◌&&◌, true≢false}
 use Prim.Native.Nat.{ℕ, zero, suc, ◌+◌, ◌-◌, ◌*◌, ◌/◌, ◌%◌, ◌^◌, ◌<◌}
 use native.Mathlib.Nat.{add-suc, suc-add, add-zero, zero-add, mul_comm, mul_assoc, mul-one, pow-succ', mod-lt, mod-eq_of_lt, zero-mod, add-mod_right}
 use native.Mathlib.Decide.{dec_lt}

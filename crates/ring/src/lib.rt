@@ -1,4 +1,6 @@
 // The ring of document 01: the level table, polynomials over words, product and inverse.
+#![tactic(auto)]
+
 mod even;
 pub mod frame;
 pub mod invert;

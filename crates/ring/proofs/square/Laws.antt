@@ -2,8 +2,8 @@
 use mathlib.Core.Path.{◌≡◌, refl, sym, ap, ap₂, ◌∙◌, subst}
 use mathlib.Core.Bool.{Bool, true, false, ◌||◌, or-false}
 use mathlib.Core.List.{List}
-use Prim.Native.Nat.{ℕ, zero, suc, ◌+◌, ◌-◌, ◌*◌, ◌/◌, ◌%◌, ◌^◌, ◌≤◌, ◌<◌}
-use native.Mathlib.Nat.{add-mod-mod, add-mul-mod_self_right, mod-add-mod, add-mul, mul-add, mul_assoc, mul_comm, mul-one, mul-zero, mod-eq_of_lt, one-mul, zero-mul, add_assoc, zero-mod, zero-lt-suc}
+use Prim.Native.Nat.{ℕ, zero, suc, ◌+◌, ◌-◌, ◌*◌, ◌/◌, ◌%◌, ◌^◌, ◌<◌}
+use native.Mathlib.Nat.{add-mod-mod, add-mul-mod_self_right, mod-add-mod, add-mul, mul-add, mul_assoc, mul_comm, mul-one, mul-zero, mod-eq_of_lt, one-mul, zero-mul, zero-mod, zero-lt-suc}
 use native.Mathlib.Decide.{ℕ_discrete}
 use native.Mathlib.Numerals.{add-one}
 use native.Mathlib.Omega.{arith}

@@ -1,0 +1,9 @@
+-- `block` reads its number off the level's row.
+use mathlib.Core.Path.{ap}
+use Rattle.ring.specs.Levels.{Level}
+use Rattle.ring.specs.inner.Rows.{row}
+use Rattle.ring.proofs.size.block.Goals as goal
+
+pub returns : goal.returns
+unfolding row
+returns c = ap (λ (l : Level). l.r) c.level_of-l.ensures
