@@ -1,5 +1,5 @@
-// The doors that C calls, on a level and byte slices: each slice is a pointer and a length. A door keeps its entry's
-// promise, and that of key making has a report besides.
+// The doors that `exchange_c` offers to C, on a level and byte slices. A door keeps its entry's promise, and that of key
+// making has a report besides.
 ghost use Rattle.std.specs.Prelude.{◌≡◌, ◌++◌, length};
 ghost use Rattle.exchange.specs.Promises.{counts_of, WrapPromise, OpenPromise};
 ghost use Rattle.exchange.specs.Doors.{four_bytes, report_of, report_bytes, MakeKeyDoorPromise};
@@ -38,8 +38,7 @@ fn write_report(counts: KeyCounts, report: &mut [u8])
 }
 
 // A refusal of the entry reports zeros by itself.
-#[unsafe(no_mangle)]
-pub extern "C" fn bike_make_key(
+pub fn bike_make_key(
     level: u32,
     seed: &[u8],
     public_key: &mut [u8],
@@ -65,8 +64,7 @@ pub extern "C" fn bike_make_key(
     made.answer
 }
 
-#[unsafe(no_mangle)]
-pub extern "C" fn bike_wrap(
+pub fn bike_wrap(
     level: u32,
     public_key: &[u8],
     message: &[u8],
@@ -79,8 +77,7 @@ pub extern "C" fn bike_wrap(
     crate::wrap(level, public_key, message, ciphertext, session_key)
 }
 
-#[unsafe(no_mangle)]
-pub extern "C" fn bike_open(
+pub fn bike_open(
     level: u32,
     private_key: &[u8],
     ciphertext: &[u8],

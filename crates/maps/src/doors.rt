@@ -1,10 +1,8 @@
-// The doors that C calls: each slice is a pointer and a length. A door keeps its entry's promise; the last counter is
-// changed in place.
+// The doors that `maps_c` offers to C. A door keeps its entry's promise; the last counter is changed in place.
 ghost use Rattle.std.specs.Prelude.{length};
 ghost use Rattle.maps.specs.Promises.{WriteMapPromise, AcceptMapPromise};
 
-#[unsafe(no_mangle)]
-pub extern "C" fn bike_map_write(
+pub fn bike_map_write(
     level: u32,
     session_key: &[u8],
     kart: u32,
@@ -18,8 +16,7 @@ pub extern "C" fn bike_map_write(
     crate::write_map(level, session_key, kart, counter, map, bytes)
 }
 
-#[unsafe(no_mangle)]
-pub extern "C" fn bike_map_accept(
+pub fn bike_map_accept(
     level: u32,
     session_key: &[u8],
     kart: u32,
