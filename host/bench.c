@@ -152,10 +152,7 @@ int main(int argc, char **argv)
     if (argc > 2)
         refuse(program, "wanted: at most one number, the milliseconds to spend on each figure", "");
     unsigned long milliseconds = argc == 2 ? number_of(program, argv[1], MOST_MILLISECONDS) : DEFAULT_MILLISECONDS;
-    const char *emulator = getenv("EMULATOR");
     printf("Processor: %s; kit: %s.\n", told("PROCESSOR"), told("KIT"));
-    if (emulator != NULL && emulator[0] != '\0')
-        puts("Under an emulator: the times are the emulator's, and say little about the code.");
     printf("Processor time of a call in milliseconds, median and least of %d runs.\n", RUNS);
     for (uint32_t level = 1; level <= 5; level += 2)
         bench(level_of(level), milliseconds);
