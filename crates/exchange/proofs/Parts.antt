@@ -2,7 +2,7 @@
 use mathlib.Core.Path.{◌≡◌, sym, ap, ap₂, ◌∙◌}
 use mathlib.Core.Bool.{false}
 use mathlib.Core.List.{List, [], ◌++◌, append-nil}
-use Prim.Native.Nat.{ℕ, ◌+◌, ◌-◌, ◌≤◌, ◌<◌}
+use Prim.Native.Nat.{ℕ, ◌-◌, ◌≤◌, ◌<◌}
 use native.Mathlib.Nat.{le_of_eq}
 use native.Mathlib.Omega.{arith}
 use lib.ListN.{length, take, drop, replicate, drop_of_length-le, length-drop, length-take, length-replicate, get_or-replicate}

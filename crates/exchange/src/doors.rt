@@ -8,6 +8,7 @@ use crate::keys::KeyCounts;
 use crate::{bytes, judge};
 use hashing::refuse;
 
+#[tactic(auto, unfolding(crate::specs::Doors::four_bytes))]
 pub fn four_bytes(n: u32) -> [u8; 4]
     ensures { result ≡ four_bytes n }
 {

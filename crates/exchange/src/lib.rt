@@ -1,5 +1,7 @@
 // BIKE as document 01 fixes it: key making, wrapping, decoding, opening, and the record reader. An entry is judged
 // first (`judge`); a number that shows only in the work comes after the judge's.
+#![tactic(auto)]
+
 pub mod bytes;
 pub mod decoder;
 mod decoding;

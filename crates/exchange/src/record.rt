@@ -31,6 +31,7 @@ pub enum Reading {
 }
 
 // The thing of a number from 1 to 6.
+#[tactic(auto, unfolding(crate::specs::Records::thing_number))]
 fn thing_of(number: u32) -> Thing
     requires { (1 ≤ number) × (number ≤ 6) }
     ensures { thing_number result ≡ number }
@@ -109,6 +110,7 @@ pub struct Line {
     pub next: usize,
 }
 
+#[tactic(auto, unfolding(crate::specs::Records::thing_number))]
 fn number_of(thing: Thing) -> u32
     ensures { result ≡ thing_number thing }
 {

@@ -10,7 +10,7 @@ ghost use Rattle.exchange.specs.inner.Working.{pair_of, Inside};
 use ring::frame::zeros;
 use ring::{WORDS, size, words};
 
-#[derive(Drop)]
+#[derive(Clone, Copy)]
 pub struct WordPair {
     pub e0: [u64; WORDS],
     pub e1: [u64; WORDS],

@@ -9,7 +9,7 @@ use ring::little_endian::two;
 use ring::size;
 use ring::size::MOST_D;
 
-#[derive(Drop)]
+#[derive(Clone, Copy)]
 pub struct Key {
     pub h0: [u16; MOST_D],
     pub h1: [u16; MOST_D],

@@ -1,0 +1,99 @@
+-- `step`: black and gray from the same counters, and then the two masked steps.
+use mathlib.Core.Path.{◌≡◌, sym, ap, ap₂, ◌∙◌}
+use Prim.Native.Nat.{ℕ, ◌-◌, ◌≤◌, ◌<◌}
+use native.Mathlib.Omega.{arith}
+use Rattle.hashing.specs.Lists.{bits}
+use Rattle.ring.specs.Levels.{Level, level_of}
+use Rattle.ring.specs.Polynomials.{Poly, weight}
+use Rattle.exchange.specs.decoder.Decoder.{Pair, threshold, residual, reaching, without, flipped, bound_of, black, gray, round, masked_step}
+use Rattle.exchange.specs.inner.Working.{key_of, pair_of}
+use Rattle.exchange.proofs.decoder.Laws.{inside_by, reaching_in, flipped_in, carried_in, threshold_least, step_first, step_later}
+use Rattle.exchange.proofs.decoder.rounds.step.Goals as goal
+use Rattle.exchange.proofs.decoder.rounds.step.Goals.{After-bound_of-t, After-marks-m, After-turned-first}
+
+-- what the marks are, of the residual and the bound that they were given: black, and those that reach three less
+black_is : (l : Level) (h e m : Pair) (s x : Poly) (t : ℕ) → x ≡ residual l.r h s e → t ≡ threshold l (weight l.r x) → m ≡ reaching l.r h x t
+    → m ≡ black l h s e
+unfolding black bound_of
+black_is l h e m s x t is_x is_t is = is ∙ ap₂ (reaching l.r h) is_x (is_t ∙ ap (λ (a : Poly). threshold l (weight l.r a)) is_x)
+
+wide_is : (l : Level) (h e m : Pair) (s x : Poly) (t : ℕ) → x ≡ residual l.r h s e → t ≡ threshold l (weight l.r x) → m ≡ reaching l.r h x (t - 3)
+    → m ≡ reaching l.r h (residual l.r h s e) (bound_of l h s e - 3)
+unfolding bound_of
+wide_is l h e m s x t is_x is_t is =
+    is ∙ ap₂ (λ (a : Poly) (t : ℕ). reaching l.r h a (t - 3)) is_x (is_t ∙ ap (λ (a : Poly). threshold l (weight l.r a)) is_x)
+
+-- the round that follows
+round_is : (l : Level) (h e m f g : Pair) (s : Poly) → m ≡ black l h s e → f ≡ flipped e m → g ≡ f → g ≡ round l h s e
+unfolding round
+round_is l h e m f g s is_m is_f is_g = is_g ∙ is_f ∙ ap (flipped e) is_m
+
+pub flipped-requires : goal.flipped-requires
+flipped-requires c =
+    let l = level_of c.args.level in
+    (c.requires.fact_2.1.1, inside_by l.r c.marks-m.ensures.fact_1.0 (reaching_in l.r (key_of l c.args.key) _ _))
+
+pub turned-first-requires : goal.turned-first-requires
+turned-first-requires c =
+    let l = level_of c.args.level in
+    let marked = inside_by l.r c.marks-m.ensures.fact_1.0 (reaching_in l.r (key_of l c.args.key) _ _) in
+    record {
+      fact_1 = c.requires.fact_1;
+      fact_2 = (c.requires.fact_2.0, inside_by l.r c.flipped.ensures (flipped_in l.r _ _ c.requires.fact_2.1.1 marked));
+      fact_3 = c.marks-m.ensures.fact_2;
+    }
+
+pub returns-then-i-gt0 : goal.returns-then-i-gt0
+returns-then-i-gt0 c =
+    let start = c.args in
+    let l = level_of start.level in
+    let later : 0 < start.i = omega arith in
+    let made = c.turned-first.ensures in
+    let marked = black_is l (key_of l c.args.key) (pair_of c.args.st.e) _ (bits 64 c.args.s) _ _ c.requires.fact_2.1.0 c.bound_of-t.ensures.0 c.marks-m.ensures.fact_1.0 in
+    let first = round_is l (key_of l start.key) (pair_of start.st.e) _ _ _ (bits 64 start.s) marked c.flipped.ensures made.fact_1.1 in
+    record { fact_1 = (made.fact_1.0, first ∙ sym (step_later l (key_of l start.key) (bits 64 start.s) (pair_of start.st.e) start.i later)); fact_2 = made.fact_2 }
+
+pub returns : goal.returns
+unfolding gray
+returns c =
+    let start = c.args in
+    let l = level_of start.level in
+    let h = key_of l start.key in
+    let s = bits 64 start.s in
+    let marked = black_is l (key_of l c.args.key) (pair_of c.args.st.e) _ (bits 64 c.args.s) _ _ c.requires.fact_2.1.0 c.bound_of-t.ensures.0 c.marks-m.ensures.fact_1.0 in
+    let first : start.i ≤ 0 = omega arith in
+    let made = c.masked_step.ensures in record {
+      fact_1 = (
+        made.fact_1.0,
+        made.fact_1.1
+            ∙ ap₂ (masked_step l h s) (c.without-gray.ensures ∙ ap₂ without (wide_is l (key_of l c.args.key) (pair_of c.args.st.e) _ (bits 64 c.args.s) _ _ c.requires.fact_2.1.0 c.bound_of-t.ensures.0 c.marks-m.ensures.fact_1.1) marked)
+            (c.masked_step-second.ensures.fact_1.1 ∙ ap₂ (masked_step l h s) marked (round_is l h (pair_of start.st.e) _ _ _ s marked c.flipped.ensures c.turned-first.ensures.fact_1.1))
+            ∙ sym (step_first l h s (pair_of start.st.e) start.i first),
+      );
+      fact_2 = made.fact_2;
+    }
+
+pub bound_of-t-requires : goal.bound_of-t-requires
+bound_of-t-requires c = carried_in c.args.level _ _ _ c.requires.fact_2.0 c.requires.fact_2.1
+
+pub overflow_sub-t : goal.overflow_sub-t
+overflow_sub-t c = rw c.bound_of-t.ensures.0 (threshold_least c.args.level _)
+
+pub marks-m-requires : goal.marks-m-requires
+marks-m-requires c = let small = c.bound_of-t.ensures.1 in
+    record { fact_1 = c.requires.fact_1; fact_2 = carried_in c.args.level _ _ _ c.requires.fact_2.0 c.requires.fact_2.1; fact_3 = c.requires.fact_3; fact_4 = (small, omega (arith, small)) }
+
+pub shape_of-f-then-i-gt0 : goal.shape_of-f-then-i-gt0
+shape_of-f-then-i-gt0 c = c.turned-first.auto.f ∙ c.marks-m.auto.f
+
+pub without-gray-requires : goal.without-gray-requires
+without-gray-requires c = let l = level_of c.args.level in inside_by l.r c.marks-m.ensures.fact_1.1 (reaching_in l.r (key_of l c.args.key) _ _)
+
+pub masked_step-second-requires : goal.masked_step-second-requires
+masked_step-second-requires c = record { fact_1 = c.requires.fact_1; fact_2 = (c.requires.fact_2.0, c.turned-first.ensures.fact_1.0); fact_3 = c.turned-first.ensures.fact_2 }
+
+pub masked_step-requires : goal.masked_step-requires
+masked_step-requires c = record { fact_1 = c.requires.fact_1; fact_2 = (c.requires.fact_2.0, c.masked_step-second.ensures.fact_1.0); fact_3 = c.masked_step-second.ensures.fact_2 }
+
+pub shape_of-f : goal.shape_of-f
+shape_of-f c = c.masked_step.auto.f ∙ c.masked_step-second.auto.f ∙ c.turned-first.auto.f ∙ c.marks-m.auto.f

@@ -1,0 +1,58 @@
+-- `wrapping` goes down the column of wrapping.
+use mathlib.Core.Path.{sym, ap, ◌∙◌}
+use Rattle.hashing.specs.Answers.{differs, first_of}
+use Rattle.hashing.proofs.Answers.{agree}
+use Rattle.ring.specs.Bytes.{byte_length}
+use Rattle.ring.proofs.Bools.{both_false}
+use Rattle.exchange.specs.Promises.{wrapping_reasons}
+use Rattle.exchange.proofs.judge.wrapping.Goals as goal
+
+pub returns-then-not-known : goal.returns-then-not-known
+unfolding wrapping_reasons first_of
+returns-then-not-known c = rw (← c.known.ensures, c.if-not-known.true)
+
+pub returns-then-public_key-polynomial : goal.returns-then-public_key-polynomial
+unfolding wrapping_reasons first_of differs
+returns-then-public_key-polynomial c =
+    rw (
+      ← c.known.ensures,
+      c.if-not-known.false,
+      ← c.ciphertext.ensures,
+      ← c.polynomial.ensures,
+      c.if-public_key-polynomial.true,
+    )
+
+pub pad_set-requires : goal.pad_set-requires
+unfolding differs
+pad_set-requires c =
+    let two = both_false _ _ c.if-public_key-polynomial.false in
+    let one = both_false _ _ two.0 in
+    agree _ _ (both_false _ _ one.0).0 ∙ c.polynomial.ensures ∙ ap byte_length (sym c.block.ensures)
+
+pub returns-then-pad_set : goal.returns-then-pad_set
+unfolding wrapping_reasons first_of differs
+returns-then-pad_set c =
+    rw (
+      ← c.known.ensures,
+      c.if-not-known.false,
+      ← c.ciphertext.ensures,
+      ← c.polynomial.ensures,
+      c.if-public_key-polynomial.false,
+      ← c.block.ensures,
+      ← c.pad_set.ensures,
+      c.if-pad_set.true,
+    )
+
+pub returns : goal.returns
+unfolding wrapping_reasons first_of differs
+returns c =
+    rw (
+      ← c.known.ensures,
+      c.if-not-known.false,
+      ← c.ciphertext.ensures,
+      ← c.polynomial.ensures,
+      c.if-public_key-polynomial.false,
+      ← c.block.ensures,
+      ← c.pad_set.ensures,
+      c.if-pad_set.false,
+    )
