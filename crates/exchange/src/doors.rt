@@ -78,12 +78,7 @@ pub fn bike_wrap(
     crate::wrap(level, public_key, message, ciphertext, session_key)
 }
 
-pub fn bike_open(
-    level: u32,
-    private_key: &[u8],
-    ciphertext: &[u8],
-    session_key: &mut [u8],
-) -> u32
+pub fn bike_open(level: u32, private_key: &[u8], ciphertext: &[u8], session_key: &mut [u8]) -> u32
     ensures { OpenPromise level private_key.now ciphertext.now (length session_key.old)
         result session_key.new }
 {
