@@ -17,7 +17,7 @@ use exchange::wrap;
 use ring::{WORDS, size, words};
 
 // What a triple adds to the totals, and how many bytes it has.
-#[derive(Drop)]
+#[derive(Clone, Copy)]
 pub struct Gain {
     pub failed: bool,
     pub rounds: usize,

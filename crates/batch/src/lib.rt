@@ -1,4 +1,6 @@
 // Document 02, CR 8: what the triples of a file add up to, counted from a window that is moved along the file.
+#![tactic(auto)]
+
 pub mod contents;
 pub mod records;
 pub mod steps;

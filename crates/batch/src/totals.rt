@@ -6,7 +6,7 @@ ghost use Rattle.batch.specs.inner.Steps.{Light};
 
 use crate::contents::Gain;
 
-#[derive(Drop)]
+#[derive(Clone, Copy)]
 pub struct Totals {
     pub triples: u64,
     pub decoded: [u64; 6],
@@ -15,7 +15,7 @@ pub struct Totals {
 }
 
 // Waiting: for so many bytes, and what stops it once they have come.
-#[derive(Drop)]
+#[derive(Clone, Copy)]
 pub enum Going {
     On,
     Waiting(u64, u32),
@@ -23,7 +23,7 @@ pub enum Going {
     Stopped(u32),
 }
 
-#[derive(Drop)]
+#[derive(Clone, Copy)]
 pub struct Count {
     pub totals: Totals,
     pub going: Going,
@@ -74,6 +74,7 @@ pub fn added(totals: Totals, gain: Gain) -> Totals
 }
 
 // Whether more bytes are asked for.
+#[tactic(auto, unfolding(crate::specs::Promises::goes_on))]
 pub fn goes_on(count: Count) -> bool
     ensures { result ≡ goes_on count }
 {

@@ -1,5 +1,7 @@
 // Both ends of an exchange in one function: key making, wrapping and opening in turn. It is proved from their contracts
 // alone.
+#![tactic(auto)]
+
 ghost use Rattle.std.specs.Prelude.{◌≡◌, length};
 ghost use Rattle.hashing.specs.Answers.{first_of};
 ghost use Rattle.ring.specs.inner.Sizes.{most_ciphertext_bytes, most_private_bytes, word_bytes};

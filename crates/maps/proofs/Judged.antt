@@ -1,11 +1,11 @@
 -- What it says that a judge finds nothing, in both directions. Assumes nothing.
 use mathlib.Core.Path.{◌≡◌, ◌∙◌}
-use mathlib.Core.Bool.{true, false}
+use mathlib.Core.Bool.{true}
 use mathlib.Core.List.{List}
-use Prim.Native.Nat.{ℕ, ◌+◌, ◌-◌, ◌≤◌, ◌<◌}
+use Prim.Native.Nat.{ℕ, ◌-◌, ◌≤◌}
 use native.Mathlib.Omega.{arith}
-use borrow.Author.Tests.{eq-eqb, eqb-true, not-false, ltb-false, leb-false, le-ltb, lt-leb}
-use lib.Dec.{lit<, eqb, ltb}
+use borrow.Author.Tests.{eq-eqb, not-false, ltb-false, leb-false, le-ltb, lt-leb}
+use lib.Dec.{lit<, ltb}
 use lib.ListN.{length}
 use Rattle.hashing.specs.Answers.{differs, first_of}
 use Rattle.hashing.proofs.Answers.{Numbered, agree, clear, all_clear, first_after}

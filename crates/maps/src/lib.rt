@@ -1,6 +1,8 @@
 // Document 02, CR 6: the map write, above the key exchange. It goes in exactly if it was written under this session's
 // key, at this level, for this kart, with a counter above the last one. The library keeps no state: a new session is a
 // new key and a last counter of `NEW_SESSION`, with the map as it stands.
+#![tactic(auto)]
+
 pub mod doors;
 pub mod judge;
 pub mod parts;

@@ -1,5 +1,7 @@
 // Private keys in a shorter form, for a controller's tag: the tail first, then the positions, each with the binary
 // digits of r.
+#![tactic(auto)]
+
 pub mod doors;
 pub mod judge;
 pub mod row;

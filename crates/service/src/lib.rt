@@ -1,5 +1,7 @@
 // Document 02, CR 11: the service desk's entry, which turns a private key round. The turned key opens what the key
 // opens.
+#![tactic(auto)]
+
 pub mod judge;
 mod rotation;
 
