@@ -4,8 +4,11 @@
 // KMAC256), the lengths of message and digest (4 bytes each, little-endian), then the message. With
 // KMAC256 the lengths of key and customization follow those two, and both stand before the message.
 // Anything else, or a vector that the input cuts short, ends the run with the line "bad vector".
-use libc::{STDIN_FILENO, STDOUT_FILENO};
-use lines::{Number, read_number};
+#![tactic(auto)]
+
+use lines::{Number, read_full, read_number};
+use std::io;
+use std::io::{Read, Write};
 
 // A vector's function, and the lengths of the key and the customization that stand before its message.
 #[derive(Drop)]
@@ -47,38 +50,55 @@ fn hash(kind: Kind, all: &[u8], digest: &mut [u8]) -> bool {
 }
 
 // Reads what fills the first buffer, and writes its digest, which fills the other.
-fn answer(kind: Kind, all: &mut [u8], digest: &mut [u8]) -> bool {
-    if io::read_full(STDIN_FILENO, all) < all.len() {
-        return false;
+fn answer(
+    input: &mut impl Read,
+    out: &mut impl Write,
+    kind: Kind,
+    all: &mut [u8],
+    digest: &mut [u8],
+) -> io::Result<bool> {
+    if read_full(input, all)? < all.len() {
+        return Ok(false);
     }
     if !hash(kind, all, digest) {
-        return false;
+        return Ok(false);
     }
-    let mut text = io::buffer();
-    let shown = lines::put_hex(&mut text, 0, digest);
-    let whole = lines::put(&mut text, shown, b"\n");
-    lines::write(&text, whole)
+    let mut text = [0u8; 4096];
+    let shown = lines::put_hex(out, &mut text, 0, digest)?;
+    let whole = lines::put(out, &mut text, shown, b"\n")?;
+    lines::write(out, &text, whole)
 }
 
-fn vector(kind: Kind, size: usize, room: usize) -> bool {
-    let mut all = io::large_buffer();
-    let mut digest = io::buffer();
+fn vector(
+    input: &mut impl Read,
+    out: &mut impl Write,
+    kind: Kind,
+    size: usize,
+    room: usize,
+) -> io::Result<bool> {
+    let mut all = [0u8; 65536];
+    let mut digest = [0u8; 4096];
     if all.len() < size {
-        return false;
+        return Ok(false);
     }
     if digest.len() < room {
-        return false;
+        return Ok(false);
     }
-    answer(kind, &mut all[..size], &mut digest[..room])
+    answer(input, out, kind, &mut all[..size], &mut digest[..room])
 }
 
 // KMAC256's two further lengths, and what follows.
-fn keyed_rest(size: u32, room: u32) -> bool {
-    let Number::Is(key) = read_number() else {
-        return false;
+fn keyed_rest(
+    input: &mut impl Read,
+    out: &mut impl Write,
+    size: u32,
+    room: u32,
+) -> io::Result<bool> {
+    let Number::Is(key) = read_number(input)? else {
+        return Ok(false);
     };
-    let Number::Is(custom) = read_number() else {
-        return false;
+    let Number::Is(custom) = read_number(input)? else {
+        return Ok(false);
     };
     let kind = Kind {
         function: 3,
@@ -86,6 +106,8 @@ fn keyed_rest(size: u32, room: u32) -> bool {
         custom: custom as usize,
     };
     vector(
+        input,
+        out,
         kind,
         key as usize + custom as usize + size as usize,
         room as usize,
@@ -93,41 +115,45 @@ fn keyed_rest(size: u32, room: u32) -> bool {
 }
 
 // The lengths of a vector, and what follows.
-fn rest(function: u8) -> bool {
-    let Number::Is(size) = read_number() else {
-        return false;
+fn rest(input: &mut impl Read, out: &mut impl Write, function: u8) -> io::Result<bool> {
+    let Number::Is(size) = read_number(input)? else {
+        return Ok(false);
     };
-    let Number::Is(room) = read_number() else {
-        return false;
+    let Number::Is(room) = read_number(input)? else {
+        return Ok(false);
     };
     if function == 3 {
-        return keyed_rest(size, room);
+        return keyed_rest(input, out, size, room);
     }
     let kind = Kind {
         function,
         key: 0,
         custom: 0,
     };
-    vector(kind, size as usize, room as usize)
+    vector(input, out, kind, size as usize, room as usize)
 }
 
 // Whether there was a good vector, so that another may follow.
-fn step() -> bool {
+fn step(input: &mut impl Read, out: &mut impl Write) -> io::Result<bool> {
     let mut function = [0u8; 1];
-    if io::read_full(STDIN_FILENO, &mut function) == 0 {
-        return false;
+    if read_full(input, &mut function)? == 0 {
+        return Ok(false);
     }
-    let good = rest(function[0]);
+    let good = rest(input, out, function[0])?;
     if !good {
-        io::write_all(STDOUT_FILENO, b"bad vector\n");
+        out.write_all(b"bad vector\n")?;
     }
-    good
+    Ok(good)
 }
 
-// A proved loop has to end, so it counts down from a number that no run uses up.
-fn main() {
-    let mut left = u64::MAX;
-    while left > 0 && step() {
-        left -= 1;
+// A proved loop has to end, so it counts up to a number that no run reaches.
+fn main(rt: HostRuntime) -> io::Result<()> {
+    let mut input = rt.reader();
+    let mut out = io::writer(&rt);
+    for _ in 0..u64::MAX {
+        if !step(&mut input, &mut out)? {
+            break;
+        }
     }
+    Ok(())
 }
