@@ -1,7 +1,9 @@
 // The buffers of a case.
-ghost use Rattle.std.specs.Prelude.{◌≡◌, ◌≤◌, length};
+ghost use Rattle.std.specs.Prelude.{◌≡◌, ◌≤◌, length, IfOk};
 
-use libc::STDIN_FILENO;
+use lines::{Number, read_full, read_number};
+use std::io;
+use std::io::Read;
 
 // "A buffer has at most 16,384 bytes".
 pub const MOST: usize = 16384;
@@ -14,31 +16,29 @@ pub fn blank() -> [u8; MOST]
 
 // The length of the next buffer; 0 for one that the entry has not, and one more than the most for a length that is cut
 // or too large.
-pub fn size(is_there: bool) -> usize
-    ensures { result ≤ 16385 }
+pub fn size(input: &mut impl Read, is_there: bool) -> io::Result<usize>
+    ensures { IfOk result (λ n. n ≤ 16385) }
 {
     if !is_there {
-        return 0;
+        return Ok(0);
     }
-    let lines::Number::Is(n) = lines::read_number() else {
-        return MOST + 1;
+    let Number::Is(n) = read_number(input)? else {
+        return Ok(MOST + 1);
     };
     if 16384 < n {
-        return MOST + 1;
+        return Ok(MOST + 1);
     }
-    n as usize
+    Ok(n as usize)
 }
 
 // An input's bytes; false where the input ends before them.
-pub fn read(bytes: &mut [u8]) -> bool {
-    io::read_full(STDIN_FILENO, bytes) == bytes.len()
+pub fn read(input: &mut impl Read, bytes: &mut [u8]) -> io::Result<bool> {
+    Ok(read_full(input, bytes)? == bytes.len())
 }
 
 // An output before the call: a byte that a refusal forgets shows.
 pub fn mark(out: &mut [u8]) {
-    let mut i = 0;
-    while i < out.len() {
-        out[i] = 0xa5;
-        i += 1;
+    for byte in out.iter_mut() {
+        *byte = 0xa5;
     }
 }

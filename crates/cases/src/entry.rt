@@ -2,9 +2,11 @@
 use crate::buffer::{MOST, blank, mark, read, size};
 use crate::words;
 use exchange::record::{Reading, Thing};
+use std::io;
+use std::io::{Read, Write};
 
 // What stands before the buffers, with zeros for the numbers that an entry has not.
-#[derive(Drop)]
+#[derive(Clone, Copy)]
 pub struct Case {
     pub ordinal: u64,
     pub number: u8,
@@ -41,7 +43,7 @@ fn outputs(number: u8) -> u8 {
 }
 
 // An entry's answer, and the numbers that it reports.
-#[derive(Drop)]
+#[derive(Clone, Copy)]
 struct Said {
     answer: u32,
     reported: u8,
@@ -136,17 +138,17 @@ fn called(case: Case, a: &[u8], b: &[u8], out0: &mut [u8], out1: &mut [u8]) -> S
 }
 
 // The line under way is a text and how much of it is used; each of these adds to it and gives how much it is then.
-fn put_field(text: &mut [u8], used: usize, n: u64) -> usize {
-    let next = lines::put(text, used, b" ");
-    lines::put_decimal(text, next, n)
+fn put_field(out: &mut impl Write, text: &mut [u8], used: usize, n: u64) -> io::Result<usize> {
+    let next = lines::put(out, text, used, b" ")?;
+    lines::put_decimal(out, text, next, n)
 }
 
-fn put_out(text: &mut [u8], used: usize, out: &[u8]) -> usize {
-    let next = lines::put(text, used, b" ");
-    if out.len() == 0 {
-        return lines::put(text, next, b"-");
+fn put_out(out: &mut impl Write, text: &mut [u8], used: usize, bytes: &[u8]) -> io::Result<usize> {
+    let next = lines::put(out, text, used, b" ")?;
+    if bytes.len() == 0 {
+        return lines::put(out, text, next, b"-");
     }
-    lines::put_hex(text, next, out)
+    lines::put_hex(out, text, next, bytes)
 }
 
 // Document 01's number of a thing.
@@ -162,24 +164,31 @@ fn number_of(thing: Thing) -> u64 {
 }
 
 fn put_values(
+    out: &mut impl Write,
     text: &mut [u8],
     used: usize,
     answer: u64,
     level: u64,
     thing: u64,
     body: u64,
-) -> usize {
-    let first = put_field(text, used, answer);
-    let second = put_field(text, first, level);
-    let third = put_field(text, second, thing);
-    put_field(text, third, body)
+) -> io::Result<usize> {
+    let first = put_field(out, text, used, answer)?;
+    let second = put_field(out, text, first, level)?;
+    let third = put_field(out, text, second, thing)?;
+    put_field(out, text, third, body)
 }
 
-fn put_record(text: &mut [u8], used: usize, bytes: &[u8]) -> usize {
+fn put_record(
+    out: &mut impl Write,
+    text: &mut [u8],
+    used: usize,
+    bytes: &[u8],
+) -> io::Result<usize> {
     match exchange::read_record(bytes) {
         Reading::Good(found) => {
             let thing = found.thing;
             put_values(
+                out,
                 text,
                 used,
                 0,
@@ -188,36 +197,56 @@ fn put_record(text: &mut [u8], used: usize, bytes: &[u8]) -> usize {
                 found.body as u64,
             )
         }
-        Reading::Short => put_values(text, used, 7, 0, 0, 0),
-        Reading::UnknownKind => put_values(text, used, 8, 0, 0, 0),
-        Reading::WrongLength => put_values(text, used, 9, 0, 0, 0),
+        Reading::Short => put_values(out, text, used, 7, 0, 0, 0),
+        Reading::UnknownKind => put_values(out, text, used, 8, 0, 0, 0),
+        Reading::WrongLength => put_values(out, text, used, 9, 0, 0, 0),
     }
 }
 
-fn put_number(text: &mut [u8], used: usize, reported: u8, i: u8, number: u32) -> usize {
+fn put_number(
+    out: &mut impl Write,
+    text: &mut [u8],
+    used: usize,
+    reported: u8,
+    i: u8,
+    number: u32,
+) -> io::Result<usize> {
     if i < reported {
-        return put_field(text, used, number as u64);
+        return put_field(out, text, used, number as u64);
     }
-    used
+    Ok(used)
 }
 
-fn put_numbers(text: &mut [u8], used: usize, said: Said) -> usize {
-    let first = put_number(text, used, said.reported, 0, said.first);
-    let second = put_number(text, first, said.reported, 1, said.second);
-    let third = put_number(text, second, said.reported, 2, said.third);
-    put_number(text, third, said.reported, 3, said.fourth)
+fn put_numbers(
+    out: &mut impl Write,
+    text: &mut [u8],
+    used: usize,
+    said: Said,
+) -> io::Result<usize> {
+    let first = put_number(out, text, used, said.reported, 0, said.first)?;
+    let second = put_number(out, text, first, said.reported, 1, said.second)?;
+    let third = put_number(out, text, second, said.reported, 2, said.third)?;
+    put_number(out, text, third, said.reported, 3, said.fourth)
 }
 
-fn put_outs(text: &mut [u8], used: usize, number: u8, out0: &[u8], out1: &[u8]) -> usize {
-    let first = put_out(text, used, out0);
+fn put_outs(
+    out: &mut impl Write,
+    text: &mut [u8],
+    used: usize,
+    number: u8,
+    out0: &[u8],
+    out1: &[u8],
+) -> io::Result<usize> {
+    let first = put_out(out, text, used, out0)?;
     if outputs(number) == 2 {
-        return put_out(text, first, out1);
+        return put_out(out, text, first, out1);
     }
-    first
+    Ok(first)
 }
 
 // The answer of an entry with outputs, what they hold, and the numbers.
 fn put_answer(
+    out: &mut impl Write,
     text: &mut [u8],
     used: usize,
     case: Case,
@@ -225,100 +254,132 @@ fn put_answer(
     b: &[u8],
     out0: &mut [u8],
     out1: &mut [u8],
-) -> usize {
+) -> io::Result<usize> {
     mark(out1);
     let said = called(case, a, b, out0, out1);
-    let answered = put_field(text, used, said.answer as u64);
-    let shown = put_outs(text, answered, case.number, out0, out1);
-    put_numbers(text, shown, said)
+    let answered = put_field(out, text, used, said.answer as u64)?;
+    let shown = put_outs(out, text, answered, case.number, out0, out1)?;
+    put_numbers(out, text, shown, said)
 }
 
 fn put_line(
+    out: &mut impl Write,
     text: &mut [u8],
     case: Case,
     a: &[u8],
     b: &[u8],
     out0: &mut [u8],
     out1: &mut [u8],
-) -> usize {
+) -> io::Result<usize> {
     let number = case.number;
-    let ordinal = lines::put_decimal(text, 0, case.ordinal);
-    let entry = put_field(text, ordinal, number as u64);
+    let ordinal = lines::put_decimal(out, text, 0, case.ordinal)?;
+    let entry = put_field(out, text, ordinal, number as u64)?;
     if number == 10 {
-        return put_record(text, entry, a);
+        return put_record(out, text, entry, a);
     }
-    put_answer(text, entry, case, a, b, out0, out1)
+    put_answer(out, text, entry, case, a, b, out0, out1)
 }
 
-fn print_line(case: Case, a: &[u8], b: &[u8], out0: &mut [u8], out1: &mut [u8]) -> bool {
-    let mut text = io::large_buffer();
-    let used = put_line(&mut text, case, a, b, out0, out1);
-    let whole = lines::put(&mut text, used, b"\n");
-    lines::write(&text, whole)
+fn print_line(
+    out: &mut impl Write,
+    case: Case,
+    a: &[u8],
+    b: &[u8],
+    out0: &mut [u8],
+    out1: &mut [u8],
+) -> io::Result<bool> {
+    let mut text = [0u8; 65536];
+    let used = put_line(out, &mut text, case, a, b, out0, out1)?;
+    let whole = lines::put(out, &mut text, used, b"\n")?;
+    lines::write(out, &text, whole)
 }
 
 // What an output holds before the call. False where a stored map is cut.
-fn prepared(number: u8, out: &mut [u8]) -> bool {
+fn prepared(input: &mut impl Read, number: u8, out: &mut [u8]) -> io::Result<bool> {
     if number == 15 {
-        return read(out);
+        return read(input, out);
     }
     mark(out);
-    true
+    Ok(true)
 }
 
 // The four steps below each read one length and lend a part of that length on. False where the case is cut or a buffer
 // is too large.
-fn with_output1(case: Case, a: &[u8], b: &[u8], out0: &mut [u8]) -> bool {
-    if !prepared(case.number, out0) {
-        return false;
+fn with_output1(
+    input: &mut impl Read,
+    out: &mut impl Write,
+    case: Case,
+    a: &[u8],
+    b: &[u8],
+    out0: &mut [u8],
+) -> io::Result<bool> {
+    if !prepared(input, case.number, out0)? {
+        return Ok(false);
     }
     let mut out1 = blank();
-    let n = size(outputs(case.number) == 2);
+    let n = size(input, outputs(case.number) == 2)?;
     if MOST < n {
-        return false;
+        return Ok(false);
     }
-    print_line(case, a, b, out0, &mut out1[..n])
+    print_line(out, case, a, b, out0, &mut out1[..n])
 }
 
-fn with_output0(case: Case, a: &[u8], b: &[u8]) -> bool {
+fn with_output0(
+    input: &mut impl Read,
+    out: &mut impl Write,
+    case: Case,
+    a: &[u8],
+    b: &[u8],
+) -> io::Result<bool> {
     let mut out0 = blank();
-    let n = size(outputs(case.number) > 0);
+    let n = size(input, outputs(case.number) > 0)?;
     if MOST < n {
-        return false;
+        return Ok(false);
     }
-    with_output1(case, a, b, &mut out0[..n])
+    with_output1(input, out, case, a, b, &mut out0[..n])
 }
 
-fn with_input1(case: Case, a: &[u8], b: &mut [u8]) -> bool {
-    if !read(b) {
-        return false;
+fn with_input1(
+    input: &mut impl Read,
+    out: &mut impl Write,
+    case: Case,
+    a: &[u8],
+    b: &mut [u8],
+) -> io::Result<bool> {
+    if !read(input, b)? {
+        return Ok(false);
     }
-    with_output0(case, a, b)
+    with_output0(input, out, case, a, b)
 }
 
-fn with_input0(case: Case, a: &mut [u8]) -> bool {
-    if !read(a) {
-        return false;
+fn with_input0(
+    input: &mut impl Read,
+    out: &mut impl Write,
+    case: Case,
+    a: &mut [u8],
+) -> io::Result<bool> {
+    if !read(input, a)? {
+        return Ok(false);
     }
     let mut b = blank();
-    let n = size(inputs(case.number) == 2);
+    let n = size(input, inputs(case.number) == 2)?;
     if MOST < n {
-        return false;
+        return Ok(false);
     }
-    with_input1(case, a, &mut b[..n])
+    with_input1(input, out, case, a, &mut b[..n])
 }
 
-pub fn answered(case: Case) -> bool {
+pub fn answered(input: &mut impl Read, out: &mut impl Write, case: Case) -> io::Result<bool> {
     if inputs(case.number) == 0 {
-        return false;
+        return Ok(false);
     }
     let mut a = blank();
-    let n = size(true);
+    let n = size(input, true)?;
     if MOST < n {
-        return false;
+        return Ok(false);
     }
     if words::broken(case.number, n) {
-        return false;
+        return Ok(false);
     }
-    with_input0(case, &mut a[..n])
+    with_input0(input, out, case, &mut a[..n])
 }

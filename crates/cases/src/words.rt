@@ -33,10 +33,8 @@ pub fn read(bytes: &[u8], n: usize) -> [u32; MOST_WORDS]
     ensures { 4096 ≡ length result }
 {
     let mut list = blank();
-    let mut i = 0;
-    while i < n {
+    for i in 0..n {
         list[i] = four(bytes, 4 * i);
-        i += 1;
     }
     list
 }
