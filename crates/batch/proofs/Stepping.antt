@@ -68,7 +68,10 @@ module _ (totals : Totals) (bytes : List ℕ) (ended : Bool) (sound : Sound tota
           nearer = λ on. omega (arith, few);
         }
     known_step (Stops number) is small =
-        record { goes = record { same = same; within = omega arith; sound = sound }; nearer = λ on. omega (arith, few) }
+        record {
+          goes = record { same = same; within = omega arith; sound = sound };
+          nearer = λ on. omega (arith, few);
+        }
       where
         same : (rest : List ℕ) → (ended ≡ true → rest ≡ [])
             → resume (over totals On) (bytes ++ rest) ≡ resume (over totals (Stopped number)) (bytes ++ rest)

@@ -29,7 +29,13 @@ record Adds (totals : Totals) (gains : List Gain) (to : Totals) : Type 0 where
 
 add_none : (totals : Totals) → Adds totals [] totals
 unfolding sum
-add_none totals = record { triples_more = omega arith; decoded_more = λ k below. omega arith; undecoded_more = omega arith; replaced_more = omega arith }
+add_none totals =
+    record {
+      triples_more = omega arith;
+      decoded_more = λ k below. omega arith;
+      undecoded_more = omega arith;
+      replaced_more = omega arith;
+    }
 
 module _ (totals : Totals) (gain : Gain) (six : length totals.decoded ≡ 6) where
   keeps_six : length (added totals gain).decoded ≡ 6

@@ -143,7 +143,10 @@ hash_l_below r e =
 xor_bytes_lem : (a b : List ℕ) → Below 8 a → Below 8 b → Bytes message_bytes (xor_bytes a b)
 unfolding xor_bytes
 xor_bytes_lem a b ha hb =
-    record { size = length-tab message_bytes _; small = below_tab 8 message_bytes _ (λ i. xor_lt 8 _ _ (ha i) (hb i)) }
+    record {
+      size = length-tab message_bytes _;
+      small = below_tab 8 message_bytes _ (λ i. xor_lt 8 _ _ (ha i) (hb i));
+    }
 
 message_of_bytes : (l : Level) (e : Pair) (c : List ℕ) → Below 8 c → Bytes message_bytes (message_of l e c)
 unfolding message_of
@@ -188,7 +191,12 @@ module _ (decoder : Decoder) (l : Level) (pos : 0 < l.r) (stays : Stays decoder 
       → e ≡ bound_h l (key_digest public) (message_of l e c) → Fits decoder l public private c (message_of l e c)
   unfolding head syndrome_of wrapped message_of
   passes_fits e is ok passes =
-      record { message = message_of_bytes l e c well_formed.bytes.small; wraps = again; decodes = ok; finds = sym is ∙ passes }
+      record {
+        message = message_of_bytes l e c well_formed.bytes.small;
+        wraps = again;
+        decodes = ok;
+        finds = sym is ∙ passes;
+      }
     where
       s : Poly
       s = syndrome_of l private c

@@ -85,7 +85,11 @@ fair_clear {level} {count} {room} none =
     let first = clear _ _ (lit< tt) none in
     let second = clear _ _ (lit< tt) first.1 in
     let lengths = both_false (ltb most_words count) _ second.0 in
-    record { level_known = not-false _ first.0; few_words = ltb-false most_words count lengths.0; room_is = agree _ _ lengths.1 }
+    record {
+      level_known = not-false _ first.0;
+      few_words = ltb-false most_words count lengths.0;
+      room_is = agree _ _ lengths.1;
+    }
 
 pub fair_numbered : (level count room : ℕ) → Numbered (fair_reasons level count room)
 unfolding fair_reasons

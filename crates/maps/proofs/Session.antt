@@ -64,7 +64,10 @@ module _ (level : ℕ) (key : List ℕ) (kart : ℕ) where
   all_follow now (bytes ∷ rest) =
       let one = follows now bytes in
       let more = all_follow (next level key kart now bytes) rest in
-      record { not_below = le_trans one.not_below more.not_below; map_stays = λ size. more.map_stays (one.map_stays size) }
+      record {
+        not_below = le_trans one.not_below more.not_below;
+        map_stays = λ size. more.map_stays (one.map_stays size);
+      }
 
   pub never_falls : (now : Controller) (records : List (List ℕ)) → now.last ≤ (after level key kart now records).last
   never_falls now records = (all_follow now records).not_below

@@ -82,7 +82,11 @@ pub record Stops (n : ℕ) (f : ℕ → Bool) (i : ℕ) : Type 0 where
 pub first_stops : (n : ℕ) (f : ℕ → Bool) → Stops n f (first_below (suc n) f)
 unfolding first_below some_below
 first_stops zero f =
-    record { within = le_refl 0; before = λ j below. absurd (not-suc-le-zero below); holds = λ below. absurd (not-suc-le-zero below) }
+    record {
+      within = le_refl 0;
+      before = λ j below. absurd (not-suc-le-zero below);
+      holds = λ below. absurd (not-suc-le-zero below);
+    }
 first_stops (suc n) f = go (some_below (suc n) f) refl (first_stops n f)
   where
     other : (b : Bool) → (b ≡ true → ⊥) → b ≡ false
@@ -92,7 +96,11 @@ first_stops (suc n) f = go (some_below (suc n) f) refl (first_stops n f)
     go : (b : Bool) → some_below (suc n) f ≡ b → Stops n f (first_below (suc n) f)
         → Stops (suc n) f (elim b [ true ↦ first_below (suc n) f | false ↦ suc n ])
     go true some stops =
-        record { within = omega (arith, stops.within); before = stops.before; holds = λ _. (first_found (suc n) f some).1 }
+        record {
+          within = omega (arith, stops.within);
+          before = stops.before;
+          holds = λ _. (first_found (suc n) f some).1;
+        }
     go false none stops =
         record {
           within = le_refl (suc n);

@@ -80,7 +80,11 @@ pair c =
     ∙ ap (λ (a : ℕ). gives a (c.make_key-made.new.public_key ∷ c.make_key-made.new.private_key ∷ [])) c.if-made-ne0.false
 
 message : (c : After-slice_known-2-1) → Bytes message_bytes c.args.message.now
-message c = record { size = (Laws.clear_of c.requires).message_size; small = λ i. (c.shared_slice_known-2-1.given i).fits }
+message c =
+    record {
+      size = (Laws.clear_of c.requires).message_size;
+      small = λ i. (c.shared_slice_known-2-1.given i).fits;
+    }
 
 -- the keys, lent as the front of their arrays
 public_lent : (c : After-make_key-made) →
@@ -150,7 +154,11 @@ returns c =
     let wraps = wrapped (goal.at.returns c).After-wrap pair bytes in
     let sent = wraps.2 in
     let own = opens (goal.at.returns c).After-open pair bytes wraps.1 in
-    let clear = sym (number (goal.at.returns c).After-make_key-made) ∙ c.if-made-ne0.false in record { both_ends_promise = rw (own.0, own.1, sent) (sym (Laws.ends given.level given.seed.now given.message.now _ _ c.requires clear)); agree = λ done. rw (own.1, sent) (Laws.ends_agree given.level given.seed.now given.message.now _ _ pair bytes) }
+    let clear = sym (number (goal.at.returns c).After-make_key-made) ∙ c.if-made-ne0.false in
+    record {
+      both_ends_promise = rw (own.0, own.1, sent) (sym (Laws.ends given.level given.seed.now given.message.now _ _ c.requires clear));
+      agree = λ done. rw (own.1, sent) (Laws.ends_agree given.level given.seed.now given.message.now _ _ pair bytes);
+    }
 
 pub slice_bounds-public_key-end : goal.slice_bounds-public_key-end
 slice_bounds-public_key-end c = room_public (goal.at.slice_bounds-public_key-end c).After-no_public_key-public_key

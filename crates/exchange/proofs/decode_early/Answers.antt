@@ -18,7 +18,11 @@ pub returns-then-answer-ne0 : goal.returns-then-answer-ne0
 unfolding decode_says rounds_say
 returns-then-answer-ne0 c =
     let first = c.decoding-answer.ensures in
-    let is = first ∙ sym (first_stays _ _ (λ none. c.if-answer-ne0.true (first ∙ none))) in record { decode_promise = rw (c.two.ensures.0, c.two.ensures.1, c.two.ensures.2) (sym (refused _ _ is c.if-answer-ne0.true)); rounds_promise = sym (refused_reports _ [] _ first c.if-answer-ne0.true) }
+    let is = first ∙ sym (first_stays _ _ (λ none. c.if-answer-ne0.true (first ∙ none))) in
+    record {
+      decode_promise = rw (c.two.ensures.0, c.two.ensures.1, c.two.ensures.2) (sym (refused _ _ is c.if-answer-ne0.true));
+      rounds_promise = sym (refused_reports _ [] _ first c.if-answer-ne0.true);
+    }
 
 pub returns-then-told : goal.returns-then-told
 unfolding decode_says rounds_say nothing

@@ -22,4 +22,8 @@ hash_h-requires c =
 pub returns : goal.returns
 unfolding error_of_says
 returns c =
-    let none = sym c.error-answer.ensures ∙ c.if-answer-ne0.false in record { error_of_promise = rw (done _ _ none, c.hash_h.ensures.0, c.hash_h.ensures.1); error_count_promise = rw c.hash_h.ensures.2 (sym (done_reports _ _ _ none)) }
+    let none = sym c.error-answer.ensures ∙ c.if-answer-ne0.false in
+    record {
+      error_of_promise = rw (done _ _ none, c.hash_h.ensures.0, c.hash_h.ensures.1);
+      error_count_promise = rw c.hash_h.ensures.2 (sym (done_reports _ _ _ none));
+    }

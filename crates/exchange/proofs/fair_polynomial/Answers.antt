@@ -15,7 +15,11 @@ pub returns-then-answer-ne0 : goal.returns-then-answer-ne0
 unfolding fair_says
 returns-then-answer-ne0 c =
     let first = c.fair-answer.ensures in
-    let is = first ∙ sym (first_stays _ _ (λ none. c.if-answer-ne0.true (first ∙ none))) in record { fair_promise = rw (c.one.ensures.0, c.one.ensures.1) (sym (refused _ _ is c.if-answer-ne0.true)); fair_count_promise = sym (refused_reports _ _ _ is c.if-answer-ne0.true) }
+    let is = first ∙ sym (first_stays _ _ (λ none. c.if-answer-ne0.true (first ∙ none))) in
+    record {
+      fair_promise = rw (c.one.ensures.0, c.one.ensures.1) (sym (refused _ _ is c.if-answer-ne0.true));
+      fair_count_promise = sym (refused_reports _ _ _ is c.if-answer-ne0.true);
+    }
 
 -- the judge found nothing
 none : (c : Else-answer-ne0) →
@@ -26,7 +30,11 @@ none c = sym c.fair-answer.ensures ∙ c.if-answer-ne0.false
 pub returns-then-drawn : goal.returns-then-drawn
 unfolding fair_says
 returns-then-drawn c =
-    let ten = last_applies _ _ (fair_numbered _ _ _) (none (goal.at.returns-then-drawn c).Else-answer-ne0) (sym c.polynomial-drawn.ensures.1 ∙ c.if-drawn.true) in record { fair_promise = rw (c.one-then-drawn.ensures.0, c.one-then-drawn.ensures.1) (sym (refused _ _ (sym ten) (λ e. omega arith))); fair_count_promise = sym (refused_reports _ _ _ (sym ten) (λ e. omega arith)) }
+    let ten = last_applies _ _ (fair_numbered _ _ _) (none (goal.at.returns-then-drawn c).Else-answer-ne0) (sym c.polynomial-drawn.ensures.1 ∙ c.if-drawn.true) in
+    record {
+      fair_promise = rw (c.one-then-drawn.ensures.0, c.one-then-drawn.ensures.1) (sym (refused _ _ (sym ten) (λ e. omega arith)));
+      fair_count_promise = sym (refused_reports _ _ _ (sym ten) (λ e. omega arith));
+    }
 
 pub returns : goal.returns
 unfolding fair_says bytes_of

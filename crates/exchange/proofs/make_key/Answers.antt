@@ -14,7 +14,11 @@ pub returns-then-answer-ne0 : goal.returns-then-answer-ne0
 unfolding make_key_says
 returns-then-answer-ne0 c =
     let first = c.making-answer.ensures in
-    let is = first ∙ sym (first_stays _ _ (λ none. c.if-answer-ne0.true (first ∙ none))) in record { make_key_promise = rw (c.two.ensures.0, c.two.ensures.1, c.two.ensures.2) (sym (refused _ _ is c.if-answer-ne0.true)); key_count_promise = c.no_counts.ensures ∙ sym (refused_reports _ _ _ is c.if-answer-ne0.true) }
+    let is = first ∙ sym (first_stays _ _ (λ none. c.if-answer-ne0.true (first ∙ none))) in
+    record {
+      make_key_promise = rw (c.two.ensures.0, c.two.ensures.1, c.two.ensures.2) (sym (refused _ _ is c.if-answer-ne0.true));
+      key_count_promise = c.no_counts.ensures ∙ sym (refused_reports _ _ _ is c.if-answer-ne0.true);
+    }
 
 -- the number of the work is key making's
 number : (c : After-make-made) →
@@ -38,4 +42,8 @@ pub returns : goal.returns
 unfolding make_key_says
 returns c =
     let clear = sym (number (goal.at.returns c).After-make-made) ∙ c.if-made-ne0.false in
-    let keys = c.make-made.ensures.1 c.if-made-ne0.false in record { make_key_promise = rw (done _ _ clear, keys.0, keys.1); key_count_promise = c.make-made.ensures.2 ∙ sym (done_reports _ _ _ clear) }
+    let keys = c.make-made.ensures.1 c.if-made-ne0.false in
+    record {
+      make_key_promise = rw (done _ _ clear, keys.0, keys.1);
+      key_count_promise = c.make-made.ensures.2 ∙ sym (done_reports _ _ _ clear);
+    }

@@ -23,7 +23,11 @@ pub returns-then-answer-ne0 : goal.returns-then-answer-ne0
 unfolding inverse_says products_say
 returns-then-answer-ne0 c =
     let first = c.judge_inverse-answer.ensures in
-    let is = first ∙ sym (first_stays _ _ (λ none. c.if-answer-ne0.true (first ∙ none))) in record { inverse_promise = rw (c.one.ensures.0, c.one.ensures.1) (sym (refused _ _ is c.if-answer-ne0.true)); products_promise = sym (refused_reports _ [] _ first c.if-answer-ne0.true) }
+    let is = first ∙ sym (first_stays _ _ (λ none. c.if-answer-ne0.true (first ∙ none))) in
+    record {
+      inverse_promise = rw (c.one.ensures.0, c.one.ensures.1) (sym (refused _ _ is c.if-answer-ne0.true));
+      products_promise = sym (refused_reports _ [] _ first c.if-answer-ne0.true);
+    }
 
 -- what the judge leaves
 found : (c : Else-answer-ne0) →
@@ -43,7 +47,11 @@ invert-found-requires c =
     let bounds = sizes c.args.level in
     let r = (level_of c.args.level).r in
     let inside = loaded (goal.at.invert-found-requires c).After-load-x (found (goal.at.invert-found-requires c).Else-answer-ne0) in
-    record { fact_1 = rw c.block-r.ensures (r_odd _, omega arith, (found (goal.at.invert-found-requires c).Else-answer-ne0).small, r_cycle _); fact_2 = rw c.block-r.ensures inside; fact_3 = rw c.block-r.ensures (λ few. sym (weight_in r (64 * (r / 64 + 1)) inside (omega arith)) ∙ sym (rw c.block-r.ensures at c.weight.ensures)) }
+    record {
+      fact_1 = rw c.block-r.ensures (r_odd _, omega arith, (found (goal.at.invert-found-requires c).Else-answer-ne0).small, r_cycle _);
+      fact_2 = rw c.block-r.ensures inside;
+      fact_3 = rw c.block-r.ensures (λ few. sym (weight_in r (64 * (r / 64 + 1)) inside (omega arith)) ∙ sym (rw c.block-r.ensures at c.weight.ensures));
+    }
 
 -- what `invert` says, of the bytes
 inverted : (c : After-invert-found) →
@@ -60,7 +68,11 @@ pub returns-then-not-found : goal.returns-then-not-found
 unfolding inverse_says products_say
 returns-then-not-found c =
     let none = sym c.judge_inverse-answer.ensures ∙ c.if-answer-ne0.false in
-    let five = last_applies _ _ (inverse_numbered _ _ _) none (ap not (sym (inverted (goal.at.returns-then-not-found c).After-invert-found).0) ∙ c.if-not-found.true) in record { inverse_promise = rw (c.one-then-not-found.ensures.0, c.one-then-not-found.ensures.1) (sym (refused _ _ (sym five) (λ e. omega arith))); products_promise = rw (inverted (goal.at.returns-then-not-found c).After-invert-found).1.1 (sym (done_reports _ [] _ none)) }
+    let five = last_applies _ _ (inverse_numbered _ _ _) none (ap not (sym (inverted (goal.at.returns-then-not-found c).After-invert-found).0) ∙ c.if-not-found.true) in
+    record {
+      inverse_promise = rw (c.one-then-not-found.ensures.0, c.one-then-not-found.ensures.1) (sym (refused _ _ (sym five) (λ e. omega arith)));
+      products_promise = rw (inverted (goal.at.returns-then-not-found c).After-invert-found).1.1 (sym (done_reports _ [] _ none));
+    }
 
 pub returns : goal.returns
 unfolding inverse_says products_say bytes_of

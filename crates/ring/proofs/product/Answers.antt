@@ -31,7 +31,11 @@ load-requires-2 c = let fits = found (goal.at.load-requires-2 c).Else-answer-ne0
 pub multiply-requires : goal.multiply-requires
 multiply-requires c =
     let in-ring = found (goal.at.multiply-requires c).Else-answer-ne0 in
-    record { fact_1 = rw c.block-r.ensures (r_odd _, in-ring.small); fact_2 = rw c.block-r.ensures (rw c.load.ensures (in-ring.inside0 (λ i. (c.shared_slice_known-1.given i).fits))); fact_3 = rw c.block-r.ensures (rw c.load-2.ensures (in-ring.inside1 (λ i. (c.shared_slice_known-2-1.given i).fits))) }
+    record {
+      fact_1 = rw c.block-r.ensures (r_odd _, in-ring.small);
+      fact_2 = rw c.block-r.ensures (rw c.load.ensures (in-ring.inside0 (λ i. (c.shared_slice_known-1.given i).fits)));
+      fact_3 = rw c.block-r.ensures (rw c.load-2.ensures (in-ring.inside1 (λ i. (c.shared_slice_known-2-1.given i).fits)));
+    }
 
 pub store-requires : goal.store-requires
 store-requires c = let fits = found (goal.at.store-requires c).Else-answer-ne0 in omega arith

@@ -54,12 +54,19 @@ returns-then-not-is_good c =
     c.requires.level_value c.requires.private_key_len.1 c.requires.private_key_len.2 c.wrap_for-made.ensures.answer_value c.if-made-ne0.false (sym (good_is (goal.at.returns-then-not-is_good c).After-is_good) ∙ c.if-not-is_good.true)
 
 pub syndrome-requires : goal.syndrome-requires
-syndrome-requires c = record { fact_1 = good (goal.at.syndrome-requires c).Else-not-is_good; fact_2 = rw (c0_is (goal.at.syndrome-requires c).Else-not-is_good) (c0_in _ _ _ _) }
+syndrome-requires c =
+    record {
+      fact_1 = good (goal.at.syndrome-requires c).Else-not-is_good;
+      fact_2 = rw (c0_is (goal.at.syndrome-requires c).Else-not-is_good) (c0_in _ _ _ _);
+    }
 
 pub find_early-found-requires : goal.find_early-found-requires
 find_early-found-requires c =
     let level = c.args.level in
-    record { fact_1 = good (goal.at.find_early-found-requires c).Else-not-is_good; fact_2 = rw c.syndrome.ensures (mul_in _ (r_pos level) _ _) }
+    record {
+      fact_1 = good (goal.at.find_early-found-requires c).Else-not-is_good;
+      fact_2 = rw c.syndrome.ensures (mul_in _ (r_pos level) _ _);
+    }
 
 pub returns : goal.returns
 unfolding gain syndrome_of

@@ -60,7 +60,11 @@ says c =
 pub returns : goal.returns
 returns c =
     let given = c.args in
-    let half = c.polynomial-half.ensures in record { answer_value = answer_is given.level given.public_key.now given.message.now (says (goal.at.returns c).After-wrap-answer); c0_value = λ none. c.load.ensures ∙ ap (bits 8) (front (goal.at.returns c).After-wrap-answer ∙ ap₂ take half (sent_is given.level given.public_key.now given.message.now (says (goal.at.returns c).After-wrap-answer) none)) }
+    let half = c.polynomial-half.ensures in
+    record {
+      answer_value = answer_is given.level given.public_key.now given.message.now (says (goal.at.returns c).After-wrap-answer);
+      c0_value = λ none. c.load.ensures ∙ ap (bits 8) (front (goal.at.returns c).After-wrap-answer ∙ ap₂ take half (sent_is given.level given.public_key.now given.message.now (says (goal.at.returns c).After-wrap-answer) none));
+    }
 
 pub slice_bounds-ciphertext-end : goal.slice_bounds-ciphertext-end
 slice_bounds-ciphertext-end c = room (goal.at.slice_bounds-ciphertext-end c).After-no_digest-session_key

@@ -32,11 +32,19 @@ there c =
     (omega (arith, some), omega (arith, full, c.requires.fact_1.few))
 
 pub look_at-requires : goal.look_at-requires
-look_at-requires c = record { fact_1 = (there (goal.at.look_at-requires c).Else-totals-bytes).0; fact_2 = c.requires.fact_2 }
+look_at-requires c =
+    record {
+      fact_1 = (there (goal.at.look_at-requires c).Else-totals-bytes).0;
+      fact_2 = c.requires.fact_2;
+    }
 
 pub step_judged-requires : goal.step_judged-requires
 step_judged-requires c =
-    record { fact_1 = c.requires.fact_1; fact_2 = (there (goal.at.step_judged-requires c).Else-totals-bytes).1; fact_3 = λ gain is. let small = c.look_at.ensures.within gain (c.in-Known.is ∙ ap Known is) in (small.2, small.3) }
+    record {
+      fact_1 = c.requires.fact_1;
+      fact_2 = (there (goal.at.step_judged-requires c).Else-totals-bytes).1;
+      fact_3 = λ gain is. let small = c.look_at.ensures.within gain (c.in-Known.is ∙ ap Known is) in (small.2, small.3);
+    }
 
 pub returns-in-Known : goal.returns-in-Known
 unfolding meant

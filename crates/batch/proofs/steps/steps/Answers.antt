@@ -45,7 +45,10 @@ turn_test c =
 pub one-done-requires : goal.one-done-requires
 one-done-requires c =
     let l = c.loop-at in
-    record { fact_1 = l.invariant.0.sound; fact_2 = rw (from_here l.at c.args.bytes.now) (turn_test (goal.at.one-done-requires c).In-loop-at).1 }
+    record {
+      fact_1 = l.invariant.0.sound;
+      fact_2 = rw (from_here l.at c.args.bytes.now) (turn_test (goal.at.one-done-requires c).In-loop-at).1;
+    }
 
 stepped : (c : After-one-done) →
     let l = c.loop-at in

@@ -11,9 +11,16 @@ beyond-requires c =
 
 pub returns-then-number-ended : goal.returns-then-number-ended
 unfolding meant
-returns-then-number-ended c = record { by_index = rw c.beyond.ensures (open_means c.args.bytes.now c.args.ended c.requires.enough_in_bounds c.args.number c.args.from c.requires.bytes_value c.if-number-ended.true); within = rw c.beyond.ensures (waits_within _ _ _) }
+returns-then-number-ended c =
+    record {
+      by_index = rw c.beyond.ensures (open_means c.args.bytes.now c.args.ended c.requires.enough_in_bounds c.args.number c.args.from c.requires.bytes_value c.if-number-ended.true);
+      within = rw c.beyond.ensures (waits_within _ _ _);
+    }
 
 pub returns : goal.returns
 unfolding meant
 returns c =
-    record { by_index = fault_means c.args.bytes.now c.args.ended c.requires.enough_in_bounds c.args.number c.args.from c.requires.bytes_value c.if-number-ended.false; within = stops_within _ _ }
+    record {
+      by_index = fault_means c.args.bytes.now c.args.ended c.requires.enough_in_bounds c.args.number c.args.from c.requires.bytes_value c.if-number-ended.false;
+      within = stops_within _ _;
+    }

@@ -15,7 +15,10 @@ use Rattle.batch.proofs.triple.look_at.Goals.{In-Whole}
 pub returns-then-bytes-lt6 : goal.returns-then-bytes-lt6
 unfolding meant
 returns-then-bytes-lt6 c =
-    record { by_index = short_means c.args.bytes.now c.args.ended c.requires.fact_2 c.requires.fact_1 c.if-bytes-lt6.true; within = stops_within _ _ }
+    record {
+      by_index = short_means c.args.bytes.now c.args.ended c.requires.fact_2 c.requires.fact_1 c.if-bytes-lt6.true;
+      within = stops_within _ _;
+    }
 
 -- the run that is read is the first record's level's
 whole_is : (c : In-Whole) →
@@ -42,4 +45,7 @@ returns-in-Whole c =
     let used = c.in-Whole.used in
     let is = whole_triple bytes used (whole_is (goal.at.returns-in-Whole c).In-Whole) in
     let some : 0 < used = omega (arith, is.size) in
-    record { by_index = rw (c.whole.ensures, c.two-level.ensures) (whole_means bytes c.args.ended c.requires.fact_2 used (whole_is (goal.at.returns-in-Whole c).In-Whole)); within = rw (c.whole.ensures, c.two-level.ensures) (contents_within (level_in bytes) _ _ _ used (length bytes) some is.within) }
+    record {
+      by_index = rw (c.whole.ensures, c.two-level.ensures) (whole_means bytes c.args.ended c.requires.fact_2 used (whole_is (goal.at.returns-in-Whole c).In-Whole));
+      within = rw (c.whole.ensures, c.two-level.ensures) (contents_within (level_in bytes) _ _ _ used (length bytes) some is.within);
+    }

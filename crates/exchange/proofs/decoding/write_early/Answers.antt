@@ -23,7 +23,11 @@ judged c = decoding_clear c.requires
 
 pub find_early-found-requires : goal.find_early-found-requires
 find_early-found-requires c =
-    let is = judged (goal.at.find_early-found-requires c).Start in record { fact_1 = good_read _ c.read_key.result _ (c.read_key.ensures.fact_1, c.read_key.ensures.fact_2) is.content.good_positions; fact_2 = rw c.load.ensures ((pad_rule _ _ is.syndrome_size (λ i. (c.shared_slice_known-2-1.given i).fits)).0 is.content.no_pad) }
+    let is = judged (goal.at.find_early-found-requires c).Start in
+    record {
+      fact_1 = good_read _ c.read_key.result _ (c.read_key.ensures.fact_1, c.read_key.ensures.fact_2) is.content.good_positions;
+      fact_2 = rw c.load.ensures ((pad_rule _ _ is.syndrome_size (λ i. (c.shared_slice_known-2-1.given i).fits)).0 is.content.no_pad);
+    }
 
 -- the decoder's answer for what was read
 same : (c : After-find_early-found) →

@@ -40,7 +40,11 @@ pub place-requires : goal.place-requires
 place-requires c = omega (arith, length-take-le (c.args.r / 64 + 1) c.args.all (room (goal.at.place-requires c).Start), ap length c.zeros-front.ensures, length-replicate {A = ℕ} words 0)
 
 pub cut-e0-requires : goal.cut-e0-requires
-cut-e0-requires c = record { fact_1 = c.requires.1; fact_2 = front_in (c.args.r / 64 + 1) c.args.all c.zeros-front.result c.place.new.t (room (goal.at.cut-e0-requires c).Start) (blank c.zeros-front.result c.zeros-front.ensures) c.place.ensures.outside c.place.ensures.by_index }
+cut-e0-requires c =
+    record {
+      fact_1 = c.requires.1;
+      fact_2 = front_in (c.args.r / 64 + 1) c.args.all c.zeros-front.result c.place.new.t (room (goal.at.cut-e0-requires c).Start) (blank c.zeros-front.result c.zeros-front.ensures) c.place.ensures.outside c.place.ensures.by_index;
+    }
 
 pub reduce-requires : goal.reduce-requires
 reduce-requires c = let pre = c.requires in omega arith

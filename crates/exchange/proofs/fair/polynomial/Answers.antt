@@ -34,7 +34,11 @@ place-requires c =
     let l = level_of given.level in
     let zeros = c.zeros-placed.ensures in
     let long : length c.zeros-placed.result ≡ words = ap length zeros ∙ length-replicate {A = ℕ} words 0 in
-    let bounds = sizes given.level in record { fact_1 = zeros ∙ ap (λ (n : ℕ). replicate n 0) (sym long); fact_2 = rw c.positions-drawn.ensures.0 (λ p listed. let below = (fair_sound l given.words.now).within p listed in omega (arith, long)) }
+    let bounds = sizes given.level in
+    record {
+      fact_1 = zeros ∙ ap (λ (n : ℕ). replicate n 0) (sym long);
+      fact_2 = rw c.positions-drawn.ensures.0 (λ p listed. let below = (fair_sound l given.words.now).within p listed in omega (arith, long));
+    }
 
 pub returns : goal.returns
 unfolding support ran_out

@@ -16,7 +16,11 @@ pub rising-list-requires : goal.rising-list-requires
 rising-list-requires c =
     let level = c.args.level in
     let count = length-rising (level_of level).r (bits 64 c.args.h) ∙ c.requires.fact_3 ∙ sym c.key_weight-d.ensures in
-    record { fact_1 = rw c.block.ensures (r_small level, omega (arith, c.key_weight-d.ensures, sizes level)); fact_2 = rw c.block.ensures c.requires.fact_2; fact_3 = rw c.block.ensures count }
+    record {
+      fact_1 = rw c.block.ensures (r_small level, omega (arith, c.key_weight-d.ensures, sizes level));
+      fact_2 = rw c.block.ensures c.requires.fact_2;
+      fact_3 = rw c.block.ensures count;
+    }
 
 room : (c : After-rising-list) → c.key_weight-d.result ≤ length c.rising-list.result
 room c = omega (arith, sizes c.args.level)

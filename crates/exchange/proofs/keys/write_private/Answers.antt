@@ -18,7 +18,11 @@ cut c = length-take-le _ _ (let long = c.requires.fact_1 in omega (arith, c.key_
 
 pub write_half-requires : goal.write_half-requires
 write_half-requires c =
-    record { fact_1 = cut (goal.at.write_half-requires c).After-key_weight-n ∙ ap (◌*◌ 2) c.key_weight-n.ensures; fact_2 = c.requires.fact_2.0; fact_3 = c.requires.fact_3.0 }
+    record {
+      fact_1 = cut (goal.at.write_half-requires c).After-key_weight-n ∙ ap (◌*◌ 2) c.key_weight-n.ensures;
+      fact_2 = c.requires.fact_2.0;
+      fact_3 = c.requires.fact_3.0;
+    }
 
 -- what is left of the buffer is as long as the second half and the tail
 rest_long : (c : After-write_half) →
@@ -35,7 +39,11 @@ rest_long c =
 
 pub write_rest-requires : goal.write_rest-requires
 write_rest-requires c =
-    record { fact_1 = rest_long (goal.at.write_rest-requires c).After-write_half; fact_2 = c.requires.fact_2.1; fact_3 = c.requires.fact_3.1 }
+    record {
+      fact_1 = rest_long (goal.at.write_rest-requires c).After-write_half;
+      fact_2 = c.requires.fact_2.1;
+      fact_3 = c.requires.fact_3.1;
+    }
 
 pub returns : goal.returns
 unfolding private_key_of

@@ -12,7 +12,12 @@ sparse-requires c =
     let d = c.key_weight in
     let size = sizes c.args.level in
     let h = c.args.key.h0 in
-    let few : d.result ≤ length h = omega (arith, d.ensures, c.requires.fact_1.0.0) in record { fact_1 = (omega (arith, r.ensures), omega (arith, r.ensures), few, omega (arith, d.ensures)); fact_2 = rw r.ensures c.requires.fact_2; fact_3 = position_below r.result d.result h few (rw (r.ensures, d.ensures) c.requires.fact_1.0.1) }
+    let few : d.result ≤ length h = omega (arith, d.ensures, c.requires.fact_1.0.0) in
+    record {
+      fact_1 = (omega (arith, r.ensures), omega (arith, r.ensures), few, omega (arith, d.ensures));
+      fact_2 = rw r.ensures c.requires.fact_2;
+      fact_3 = position_below r.result d.result h few (rw (r.ensures, d.ensures) c.requires.fact_1.0.1);
+    }
 
 pub returns : goal.returns
 returns c =

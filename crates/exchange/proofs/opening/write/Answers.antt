@@ -90,7 +90,11 @@ write_session_key-requires c =
     let size : at + 32 - at ≡ message_bytes = omega arith in
     let sigma_long : length (take (at + 32 - at) rest) ≡ message_bytes =
     rw size (length-take-le message_bytes rest (omega (arith, length-drop at c.args.private_key.now, room (goal.at.write_session_key-requires c).After-key_weight-at))) in
-    record { fact_1 = (sigma_long, is.ciphertext_size, is.key_room); fact_2 = rw c.find-e.ensures.1 inside.0; fact_3 = rw c.find-e.ensures.2 inside.1 }
+    record {
+      fact_1 = (sigma_long, is.ciphertext_size, is.key_room);
+      fact_2 = rw c.find-e.ensures.1 inside.0;
+      fact_3 = rw c.find-e.ensures.2 inside.1;
+    }
 
 pub returns : goal.returns
 unfolding opened syndrome_of
@@ -122,11 +126,18 @@ pub load-requires : goal.load-requires
 load-requires c = rw (cut (goal.at.load-requires c).After-polynomial-n) (omega (arith, c.polynomial-n.ensures, sizes c.args.level))
 
 pub syndrome-s-requires : goal.syndrome-s-requires
-syndrome-s-requires c = record { fact_1 = good (goal.at.syndrome-s-requires c).After-read_key-key; fact_2 = c0_in (goal.at.syndrome-s-requires c).After-load }
+syndrome-s-requires c =
+    record {
+      fact_1 = good (goal.at.syndrome-s-requires c).After-read_key-key;
+      fact_2 = c0_in (goal.at.syndrome-s-requires c).After-load;
+    }
 
 pub find-e-requires : goal.find-e-requires
 find-e-requires c = let level = c.args.level in
-    record { fact_1 = good (goal.at.find-e-requires c).After-read_key-key; fact_2 = rw c.syndrome-s.ensures (mul_in _ (r_pos level) _ _) }
+    record {
+      fact_1 = good (goal.at.find-e-requires c).After-read_key-key;
+      fact_2 = rw c.syndrome-s.ensures (mul_in _ (r_pos level) _ _);
+    }
 
 pub slice_bounds-write_session_key-end : goal.slice_bounds-write_session_key-end
 slice_bounds-write_session_key-end c = room (goal.at.slice_bounds-write_session_key-end c).After-key_weight-at

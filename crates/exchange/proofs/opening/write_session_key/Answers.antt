@@ -26,13 +26,19 @@ error_in e0 e1 = record { half0 = bits 64 e0; half1 = bits 64 e1 }
 
 pub message_of-m-requires : goal.message_of-m-requires
 message_of-m-requires c =
-    record { fact_1 = c.requires.fact_1.1; fact_2 = (front_room _ _ _ c.stored.ensures.0, front_room _ _ _ c.stored.ensures.1) }
+    record {
+      fact_1 = c.requires.fact_1.1;
+      fact_2 = (front_room _ _ _ c.stored.ensures.0, front_room _ _ _ c.stored.ensures.1);
+    }
 
 pub differences-differing-requires : goal.differences-differing-requires
 differences-differing-requires c =
     let l = level_of c.args.level in
     let m = c.bound-tied.result in
-    record { fact_1 = (c.requires.fact_2, c.requires.fact_3); fact_2 = (rw c.words_of.ensures.0 (error_in0 l m), rw c.words_of.ensures.1 (error_in1 l m)) }
+    record {
+      fact_1 = (c.requires.fact_2, c.requires.fact_3);
+      fact_2 = (rw c.words_of.ensures.0 (error_in0 l m), rw c.words_of.ensures.1 (error_in1 l m));
+    }
 
 pub chosen-secret-requires : goal.chosen-secret-requires
 unfolding xor_bytes

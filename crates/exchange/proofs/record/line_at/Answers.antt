@@ -28,7 +28,12 @@ returns-in-Good c =
     let bytes = c.args.bytes.now in
     let found = c.in-Good.found in
     let is = reading at bytes (outcome_of (Good found)) c.in-Good.ensures in
-    record { says = rw c.number_of.ensures is; follows = refl; onward = omega arith; within = room at bytes found (omega arith) is }
+    record {
+      says = rw c.number_of.ensures is;
+      follows = refl;
+      onward = omega arith;
+      within = room at bytes found (omega arith) is;
+    }
 
 pub overflow_add-result-in-Good : goal.overflow_add-result-in-Good
 overflow_add-result-in-Good c =

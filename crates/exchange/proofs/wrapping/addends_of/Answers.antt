@@ -47,7 +47,11 @@ pub sparse_upper-product-requires : goal.sparse_upper-product-requires
 sparse_upper-product-requires c =
     let bounds = sizes c.args.level in
     let t = c.error_weight-t.ensures in
-    record { fact_1 = rw c.block.ensures (omega arith, omega arith, room (goal.at.sparse_upper-product-requires c).After-positions-sampled, omega arith); fact_2 = rw c.block.ensures c.requires; fact_3 = rw c.block.ensures (below (goal.at.sparse_upper-product-requires c).After-positions-sampled) }
+    record {
+      fact_1 = rw c.block.ensures (omega arith, omega arith, room (goal.at.sparse_upper-product-requires c).After-positions-sampled, omega arith);
+      fact_2 = rw c.block.ensures c.requires;
+      fact_3 = rw c.block.ensures (below (goal.at.sparse_upper-product-requires c).After-positions-sampled);
+    }
 
 pub returns : goal.returns
 unfolding hash_h

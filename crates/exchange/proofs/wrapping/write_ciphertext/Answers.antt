@@ -22,7 +22,12 @@ cut c = length-take-le _ _ (let long = c.requires.fact_1.2 in omega arith)
 
 pub write_c0-requires : goal.write_c0-requires
 write_c0-requires c =
-    let l = level_of c.args.level in record { fact_1 = cut (goal.at.write_c0-requires c).After-polynomial-n ∙ c.polynomial-n.ensures; fact_2 = rw c.bound_addends-a.ensures.0 (error_in0 l _); fact_3 = rw c.bound_addends-a.ensures.2 (mul_in l.r (r_pos c.args.level) _ _) }
+    let l = level_of c.args.level in
+    record {
+      fact_1 = cut (goal.at.write_c0-requires c).After-polynomial-n ∙ c.polynomial-n.ensures;
+      fact_2 = rw c.bound_addends-a.ensures.0 (error_in0 l _);
+      fact_3 = rw c.bound_addends-a.ensures.2 (mul_in l.r (r_pos c.args.level) _ _);
+    }
 
 -- the bytes of the message's error, at the front of their arrays
 b0_is : (c : After-stored-b) →

@@ -21,4 +21,7 @@ returns c =
     let r = c.args.r in
     let x = c.args.x in
     let room : r / 64 < length x = omega arith in
-    record { fact_1 = rw (mask (goal.at.returns c).Start) (cut_in r x room c.requires.fact_2); fact_2 = rw (mask (goal.at.returns c).Start) (cut_below r x room) }
+    record {
+      fact_1 = rw (mask (goal.at.returns c).Start) (cut_in r x room c.requires.fact_2);
+      fact_2 = rw (mask (goal.at.returns c).Start) (cut_below r x room);
+    }

@@ -15,7 +15,19 @@ unfolding doubled longer
 returns c = rw (ne_eqb _ _ c.if-digit-eq1.false) c.step-twice.ensures
 
 pub step-twice-requires : goal.step-twice-requires
-step-twice-requires c = record { fact_1 = c.requires.fact_1; fact_2 = c.requires.fact_2.1; fact_3 = c.requires.fact_3.1; fact_4 = omega arith }
+step-twice-requires c =
+    record {
+      fact_1 = c.requires.fact_1;
+      fact_2 = c.requires.fact_2.1;
+      fact_3 = c.requires.fact_3.1;
+      fact_4 = omega arith;
+    }
 
 pub step-requires : goal.step-requires
-step-requires c = record { fact_1 = c.requires.fact_1; fact_2 = c.requires.fact_2.0; fact_3 = c.requires.fact_3.0; fact_4 = omega (arith, c.step-twice.ensures.fact_2) }
+step-requires c =
+    record {
+      fact_1 = c.requires.fact_1;
+      fact_2 = c.requires.fact_2.0;
+      fact_3 = c.requires.fact_3.0;
+      fact_4 = omega (arith, c.step-twice.ensures.fact_2);
+    }

@@ -26,4 +26,9 @@ returns c =
     record { fact_1 = told.0; fact_2 = told.1; fact_3 = c.power-made.ensures.fact_2 }
 
 pub power-made-requires : goal.power-made-requires
-power-made-requires c = record { fact_1 = (omega arith, omega arith, omega arith); fact_2 = c.requires.fact_2; fact_3 = c.requires.fact_3 }
+power-made-requires c =
+    record {
+      fact_1 = (omega arith, omega arith, omega arith);
+      fact_2 = c.requires.fact_2;
+      fact_3 = c.requires.fact_3;
+    }

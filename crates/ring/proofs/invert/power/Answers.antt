@@ -36,8 +36,16 @@ returns c =
     let was = c.loop-n in
     let end : was.n ≡ 0 = omega arith in
     let at-end = rw end at was.invariant.3 in
-    record { fact_1 = c.once.ensures ∙ ap (λ (e : Rung). spread c.args.r 2 e.value) at-end; fact_2 = ap (λ (e : Rung). e.products) at-end }
+    record {
+      fact_1 = c.once.ensures ∙ ap (λ (e : Rung). spread c.args.r 2 e.value) at-end;
+      fact_2 = ap (λ (e : Rung). e.products) at-end;
+    }
 
 pub climb-next-requires : goal.climb-next-requires
 climb-next-requires c = let so = c.loop-n.invariant in
-    record { fact_1 = (omega arith, omega arith, omega arith); fact_2 = (c.requires.fact_2, so.1); fact_3 = (c.requires.fact_3, so.2); fact_4 = omega arith }
+    record {
+      fact_1 = (omega arith, omega arith, omega arith);
+      fact_2 = (c.requires.fact_2, so.1);
+      fact_3 = (c.requires.fact_3, so.2);
+      fact_4 = omega arith;
+    }

@@ -10,12 +10,19 @@ use Rattle.ring.proofs.invert.step.Goals as goal
 pub times-requires : goal.times-requires
 times-requires c =
     let given = c.args in
-    record { fact_1 = c.requires.fact_1; fact_2 = (rw c.squared.ensures (spread_in given.r (omega arith) (2 ^ given.k) (bits 64 given.x)), c.requires.fact_2); fact_3 = c.requires.fact_3 }
+    record {
+      fact_1 = c.requires.fact_1;
+      fact_2 = (rw c.squared.ensures (spread_in given.r (omega arith) (2 ^ given.k) (bits 64 given.x)), c.requires.fact_2);
+      fact_3 = c.requires.fact_3;
+    }
 
 pub returns : goal.returns
 returns c =
     let given = c.args in
-    record { fact_1 = c.times.ensures ∙ ap (λ (p : Poly). mul given.r p (bits 64 given.y)) c.squared.ensures; fact_2 = refl }
+    record {
+      fact_1 = c.times.ensures ∙ ap (λ (p : Poly). mul given.r p (bits 64 given.y)) c.squared.ensures;
+      fact_2 = refl;
+    }
 
 pub squared-requires : goal.squared-requires
 squared-requires c = (omega arith, omega arith, omega arith)

@@ -64,7 +64,11 @@ returns c =
     let to = row_words * (2 * a.v) + 6 in
     let next : row_words * (2 * a.v + 1) + 6 ≡ to + row_words = omega arith in
     let all : l.i ≡ a.n + 1 = omega arith in
-    record { by_index = rw (next, ← all) l.invariant.2; by_index_2 = bits_from l.t to (a.n + 1) (λ k. bits 64 t₀ (64 * from + k - 1)) (rw (← all) l.invariant.3); by_index_3 = rw next (bits_from l.t (to + row_words) (a.n + 1) (λ k. flip (bits 64 t₀ (64 * from + k - 1)) (bits 64 t₀ (64 * first_row + k))) (rw (← all) l.invariant.4)) }
+    record {
+      by_index = rw (next, ← all) l.invariant.2;
+      by_index_2 = bits_from l.t to (a.n + 1) (λ k. bits 64 t₀ (64 * from + k - 1)) (rw (← all) l.invariant.3);
+      by_index_3 = rw next (bits_from l.t (to + row_words) (a.n + 1) (λ k. flip (bits 64 t₀ (64 * from + k - 1)) (bits 64 t₀ (64 * first_row + k))) (rw (← all) l.invariant.4));
+    }
 
 pub loop-i-init : goal.loop-i-init
 loop-i-init c = (omega arith, refl, (λ j even odd. refl), (λ j h. absurd (not-suc-le-zero h)), λ j h. absurd (not-suc-le-zero h))

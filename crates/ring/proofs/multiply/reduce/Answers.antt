@@ -46,4 +46,7 @@ loop-i-init c = (
 
 pub cut-requires : goal.cut-requires
 cut-requires c = let a = c.args in
-    record { fact_1 = omega arith; fact_2 = rw (← all (goal.at.cut-requires c).After-loop-i) (done_above (folded a.x a.r) c.loop-i.i c.loop-i.y c.loop-i.invariant.1) }
+    record {
+      fact_1 = omega arith;
+      fact_2 = rw (← all (goal.at.cut-requires c).After-loop-i) (done_above (folded a.x a.r) c.loop-i.i c.loop-i.y c.loop-i.invariant.1);
+    }

@@ -12,7 +12,11 @@ pub windows-requires : goal.windows-requires
 windows-requires c =
     let made = c.starts-from in
     let low : (i : ℕ) → i < c.args.count → get_or made.result i 0 ≤ c.args.r = λ i more. omega (arith, made.ensures.fact_1 i more) in
-    record { fact_1 = omega arith; fact_2 = c.requires.fact_2; fact_3 = ((λ i more. inl (low i more)), made.ensures.fact_2) }
+    record {
+      fact_1 = omega arith;
+      fact_2 = c.requires.fact_2;
+      fact_3 = ((λ i more. inl (low i more)), made.ensures.fact_2);
+    }
 
 pub returns : goal.returns
 returns c =

@@ -10,7 +10,11 @@ use Rattle.ring.proofs.sparse.sparse_upper.Goals as goal
 pub windows-requires : goal.windows-requires
 windows-requires c =
     let made = c.upper_starts-from in
-    record { fact_1 = omega arith; fact_2 = c.requires.fact_2; fact_3 = ((λ i more. upper_is_start c.args.r _ _ (made.ensures.fact_1 i more)), made.ensures.fact_2) }
+    record {
+      fact_1 = omega arith;
+      fact_2 = c.requires.fact_2;
+      fact_3 = ((λ i more. upper_is_start c.args.r _ _ (made.ensures.fact_1 i more)), made.ensures.fact_2);
+    }
 
 pub returns : goal.returns
 unfolding upper

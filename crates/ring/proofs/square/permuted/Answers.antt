@@ -71,4 +71,7 @@ pub returns : goal.returns
 returns c =
     let was = c.loop-i in
     let all : was.i ≡ c.args.r / 64 + 1 = omega arith in
-    record { fact_1 = rw (← all) was.invariant.4; fact_2 = rw (← all) (was.invariant.5 (bits 64 c.args.x) c.unpacked-d.ensures) }
+    record {
+      fact_1 = rw (← all) was.invariant.4;
+      fact_2 = rw (← all) (was.invariant.5 (bits 64 c.args.x) c.unpacked-d.ensures);
+    }

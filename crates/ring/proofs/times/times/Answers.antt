@@ -16,7 +16,11 @@ use Rattle.ring.proofs.times.times.Goals.{After-rising-list}
 pub rising-list-requires : goal.rising-list-requires
 rising-list-requires c =
     let few = c.requires.fact_3 c.if-ones-le-MOST_D.true in
-    record { fact_1 = (c.requires.fact_1.2, c.if-ones-le-MOST_D.true); fact_2 = c.requires.fact_2.1; fact_3 = length-rising c.args.r (bits 64 c.args.y) ∙ few }
+    record {
+      fact_1 = (c.requires.fact_1.2, c.if-ones-le-MOST_D.true);
+      fact_2 = c.requires.fact_2.1;
+      fact_3 = length-rising c.args.r (bits 64 c.args.y) ∙ few;
+    }
 
 -- each position that is listed is below r
 below : (c : After-rising-list) (i : ℕ) → i < c.args.ones → get_or c.rising-list.result i 0 < c.args.r
@@ -27,7 +31,11 @@ below c i more =
 
 pub sparse-requires : goal.sparse-requires
 sparse-requires c =
-    record { fact_1 = (c.requires.fact_1.1, c.requires.fact_1.2, omega arith, omega arith); fact_2 = c.requires.fact_2.0; fact_3 = below (goal.at.sparse-requires c).After-rising-list }
+    record {
+      fact_1 = (c.requires.fact_1.1, c.requires.fact_1.2, omega arith, omega arith);
+      fact_2 = c.requires.fact_2.0;
+      fact_3 = below (goal.at.sparse-requires c).After-rising-list;
+    }
 
 pub returns-then-ones-le-MOST_D : goal.returns-then-ones-le-MOST_D
 returns-then-ones-le-MOST_D c =
@@ -38,7 +46,12 @@ returns-then-ones-le-MOST_D c =
     ∙ mul_comm r y (bits 64 c.args.x)
 
 pub multiply-requires : goal.multiply-requires
-multiply-requires c = record { fact_1 = (c.requires.fact_1.0, c.requires.fact_1.2); fact_2 = c.requires.fact_2.0; fact_3 = c.requires.fact_2.1 }
+multiply-requires c =
+    record {
+      fact_1 = (c.requires.fact_1.0, c.requires.fact_1.2);
+      fact_2 = c.requires.fact_2.0;
+      fact_3 = c.requires.fact_2.1;
+    }
 
 pub returns : goal.returns
 returns c = c.multiply.ensures

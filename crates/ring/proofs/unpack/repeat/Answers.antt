@@ -25,7 +25,11 @@ loop-i-preserved c =
 
 pub returns : goal.returns
 returns c =
-    let all : c.loop-i.i ≡ c.args.r = omega arith in record { by_index = λ k h. c.loop-i.invariant.2 k (omega arith); by_index_2 = λ k h. c.loop-i.invariant.3 k (⊎_elim (λ below. inl below) (λ past. inr (omega arith)) h) }
+    let all : c.loop-i.i ≡ c.args.r = omega arith in
+    record {
+      by_index = λ k h. c.loop-i.invariant.2 k (omega arith);
+      by_index_2 = λ k h. c.loop-i.invariant.3 k (⊎_elim (λ below. inl below) (λ past. inr (omega arith)) h);
+    }
 
 pub loop-i-init : goal.loop-i-init
 loop-i-init c = (omega arith, refl, (λ k h. absurd (omega arith)), λ k h. refl)

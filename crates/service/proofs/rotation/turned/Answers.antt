@@ -15,7 +15,11 @@ pub place-requires : goal.place-requires
 place-requires c =
     let zeros = c.zeros-x.ensures in
     let long : length c.zeros-x.result ≡ words = ap length zeros ∙ length-replicate {A = ℕ} words 0 in
-    let pos : 0 < c.args.r = omega arith in record { fact_1 = zeros ∙ ap (λ (n : ℕ). replicate n 0) (sym long); fact_2 = rw c.moved_on-list.ensures.1 (λ p listed. let below = moved_below c.args.r c.args.k pos c.args.h.now c.requires.fact_2 p listed in omega (arith, long)) }
+    let pos : 0 < c.args.r = omega arith in
+    record {
+      fact_1 = zeros ∙ ap (λ (n : ℕ). replicate n 0) (sym long);
+      fact_2 = rw c.moved_on-list.ensures.1 (λ p listed. let below = moved_below c.args.r c.args.k pos c.args.h.now c.requires.fact_2 p listed in omega (arith, long));
+    }
 
 pub returns : goal.returns
 unfolding support turned

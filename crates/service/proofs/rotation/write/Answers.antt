@@ -43,7 +43,10 @@ turned-h0-requires c =
     let long = length-take-le c.key_weight-d.result c.read_key-key.result.h0 (room (goal.at.turned-h0-requires c).After-read_key-key).0 in
     let weight = c.key_weight-d.ensures in
     let within = (judged (goal.at.turned-h0-requires c).Start).within in
-    record { fact_1 = rw c.block-r.ensures (omega arith, r_small c.args.level, omega arith); fact_2 = rw c.block-r.ensures (rw (list0 (goal.at.turned-h0-requires c).After-read_key-key) (Keys.half0 c.args.level c.args.private_key.now (judged (goal.at.turned-h0-requires c).Start).good_positions).inside) }
+    record {
+      fact_1 = rw c.block-r.ensures (omega arith, r_small c.args.level, omega arith);
+      fact_2 = rw c.block-r.ensures (rw (list0 (goal.at.turned-h0-requires c).After-read_key-key) (Keys.half0 c.args.level c.args.private_key.now (judged (goal.at.turned-h0-requires c).Start).good_positions).inside);
+    }
 
 pub turned-h1-requires : goal.turned-h1-requires
 unfolding secret
@@ -52,7 +55,10 @@ turned-h1-requires c =
     let long = length-take-le c.key_weight-d.result c.read_key-key.result.h1 (room (goal.at.turned-h1-requires c).After-read_key-key).1 in
     let weight = c.key_weight-d.ensures in
     let within = (judged (goal.at.turned-h1-requires c).Start).within in
-    record { fact_1 = rw c.block-r.ensures (omega arith, r_small c.args.level, omega arith); fact_2 = rw c.block-r.ensures (rw (list1 (goal.at.turned-h1-requires c).After-read_key-key) (Keys.half1 c.args.level c.args.private_key.now (judged (goal.at.turned-h1-requires c).Start).good_positions).inside) }
+    record {
+      fact_1 = rw c.block-r.ensures (omega arith, r_small c.args.level, omega arith);
+      fact_2 = rw c.block-r.ensures (rw (list1 (goal.at.turned-h1-requires c).After-read_key-key) (Keys.half1 c.args.level c.args.private_key.now (judged (goal.at.turned-h1-requires c).Start).good_positions).inside);
+    }
 
 -- the words of each half
 words0 : (c : After-turned-h0) →
@@ -91,7 +97,11 @@ write_private-requires c =
     let first = half_is (words0 (goal.at.write_private-requires c).After-turned-h0) (Keys.first c.args.level c.args.private_key.now is.good_positions c.args.k) in
     let second = half_is (words1 (goal.at.write_private-requires c).After-turned-h1) (Keys.second c.args.level c.args.private_key.now is.good_positions c.args.k) in
     let rest = rest_long (goal.at.write_private-requires c).After-read_key-key in
-    record { fact_1 = is.room_is ∙ omega arith; fact_2 = (first.inside, second.inside); fact_3 = (first.weighs, second.weighs) }
+    record {
+      fact_1 = is.room_is ∙ omega arith;
+      fact_2 = (first.inside, second.inside);
+      fact_3 = (first.weighs, second.weighs);
+    }
 
 pub returns : goal.returns
 unfolding rotated turned_pair tail

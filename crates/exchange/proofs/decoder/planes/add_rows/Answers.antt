@@ -56,7 +56,11 @@ loop-i-preserved c =
 
 pub returns : goal.returns
 returns c =
-    let l = c.loop-i in record { fact_1 = (λ i e above below h. l.invariant.2 i above (omega arith) e h); fact_2 = λ i h out. l.invariant.3 i h (⊎_elim inl (λ past. inr (omega arith)) out) }
+    let l = c.loop-i in
+    record {
+      fact_1 = (λ i e above below h. l.invariant.2 i above (omega arith) e h);
+      fact_2 = λ i h out. l.invariant.3 i h (⊎_elim inl (λ past. inr (omega arith)) out);
+    }
 
 pub loop-i-init : goal.loop-i-init
 loop-i-init c = (omega arith, refl, (λ j above below. absurd (omega arith)), λ j h out. refl)

@@ -47,7 +47,12 @@ count_block-requires c =
     let l = c.loop-b in
     let rows = c.starts_of-starts in
     let given = c.args in
-    let known = ready given.r given.d given.positions.now rows.result given.f.now c.requires.fact_1.0 c.requires.fact_2 rows.ensures.fact_1.1 rows.ensures.fact_2 c.requires.fact_3.1 in record { fact_1 = (l.invariant.1, omega (arith, l.invariant.0, c.loop-b-test.true, c.requires.fact_1.0), c.requires.fact_1.2); fact_2 = (λ i e above below. l.invariant.3 i e (omega arith) (omega arith)); fact_3 = ((c.requires.fact_3.0, rows.ensures.fact_1.0, known.0), known.1) }
+    let known = ready given.r given.d given.positions.now rows.result given.f.now c.requires.fact_1.0 c.requires.fact_2 rows.ensures.fact_1.1 rows.ensures.fact_2 c.requires.fact_3.1 in
+    record {
+      fact_1 = (l.invariant.1, omega (arith, l.invariant.0, c.loop-b-test.true, c.requires.fact_1.0), c.requires.fact_1.2);
+      fact_2 = (λ i e above below. l.invariant.3 i e (omega arith) (omega arith));
+      fact_3 = ((c.requires.fact_3.0, rows.ensures.fact_1.0, known.0), known.1);
+    }
 
 either : {A : Type 0} (from i : ℕ) → (i < from → A) → (from ≤ i → A) → A
 either {A} from i before here = go (dec_lt i from)

@@ -27,7 +27,11 @@ pub returns : goal.returns
 returns c =
     let l = c.loop-k in
     let given = c.args in
-    let long : length given.q ≡ planes = omega arith in record { fact_1 = column_is l.p given.q given.i long (λ k h. l.invariant.2 k (omega arith)); fact_2 = λ j h other. column_ext l.p given.p.now j (λ k. l.invariant.3 j k h other) }
+    let long : length given.q ≡ planes = omega arith in
+    record {
+      fact_1 = column_is l.p given.q given.i long (λ k h. l.invariant.2 k (omega arith));
+      fact_2 = λ j h other. column_ext l.p given.p.now j (λ k. l.invariant.3 j k h other);
+    }
 
 pub loop-k-init : goal.loop-k-init
 loop-k-init c = (omega arith, refl, (λ m h. absurd (not-suc-le-zero h)), λ j m h other. refl)

@@ -33,7 +33,10 @@ loop-i-preserved c =
 pub returns : goal.returns
 returns c =
     let l = c.loop-i in
-    record { fact_1 = (l.invariant.1, λ i h. l.invariant.2 i (omega arith)); fact_2 = λ i past. l.invariant.3 i (omega arith) }
+    record {
+      fact_1 = (l.invariant.1, λ i h. l.invariant.2 i (omega arith));
+      fact_2 = λ i past. l.invariant.3 i (omega arith);
+    }
 
 pub overflow_cast-b : goal.overflow_cast-b
 overflow_cast-b c = omega (arith, c.shared_slice_known-in-loop-i-1.given c.loop-i.i)

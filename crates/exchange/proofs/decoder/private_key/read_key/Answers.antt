@@ -36,4 +36,8 @@ returns c =
     let d = c.key_weight-d in
     let bytes = c.args.bytes.now in
     let first = c.half-h0.ensures in
-    let second = c.half-h1.ensures in record { fact_1 = (first.0, rw d.ensures at first.1); fact_2 = (second.0, rw d.ensures at (second.1 ∙ ap (numbers 2 d.result) (rest (2 * d.result) bytes))) }
+    let second = c.half-h1.ensures in
+    record {
+      fact_1 = (first.0, rw d.ensures at first.1);
+      fact_2 = (second.0, rw d.ensures at (second.1 ∙ ap (numbers 2 d.result) (rest (2 * d.result) bytes)));
+    }

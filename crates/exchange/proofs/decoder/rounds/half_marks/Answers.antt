@@ -21,7 +21,13 @@ returns c =
     )
 
 pub counters-p-requires : goal.counters-p-requires
-counters-p-requires c = let pre = c.requires in record { fact_1 = pre.fact_1; fact_2 = pre.fact_2; fact_3 = pre.fact_3 }
+counters-p-requires c =
+    let pre = c.requires in
+    record {
+      fact_1 = pre.fact_1;
+      fact_2 = pre.fact_2;
+      fact_3 = pre.fact_3;
+    }
 
 pub reaching-m-requires : goal.reaching-m-requires
 reaching-m-requires c = let pre = c.requires in (pre.fact_1.0, omega arith, pre.fact_4.0, c.counters-p.ensures.fact_2)

@@ -41,7 +41,11 @@ both level r d key f x bound {m} at-r at-d good rows first second =
 pub rows-requires : goal.rows-requires
 rows-requires c =
     let asked = ready c.args.level _ _ c.args.key.h0 c.block-r.ensures c.key_weight-d.ensures c.requires.fact_1.0 in
-    record { fact_1 = (asked.0.0, asked.0.1); fact_2 = rw c.block-r.ensures c.requires.fact_2; fact_3 = c.requires.fact_3 }
+    record {
+      fact_1 = (asked.0.0, asked.0.1);
+      fact_2 = rw c.block-r.ensures c.requires.fact_2;
+      fact_3 = c.requires.fact_3;
+    }
 
 room : (c : After-rows) → Room c.rows.new.f
 room c = (c.rows.ensures.0, c.rows.ensures.2)
@@ -49,12 +53,22 @@ room c = (c.rows.ensures.0, c.rows.ensures.2)
 pub half_marks-m0-requires : goal.half_marks-m0-requires
 half_marks-m0-requires c =
     let asked = ready c.args.level _ _ c.args.key.h0 c.block-r.ensures c.key_weight-d.ensures c.requires.fact_1.0 in
-    record { fact_1 = (asked.0.1, asked.0.2, asked.0.3); fact_2 = asked.1; fact_3 = room (goal.at.half_marks-m0-requires c).After-rows; fact_4 = c.requires.fact_4 }
+    record {
+      fact_1 = (asked.0.1, asked.0.2, asked.0.3);
+      fact_2 = asked.1;
+      fact_3 = room (goal.at.half_marks-m0-requires c).After-rows;
+      fact_4 = c.requires.fact_4;
+    }
 
 pub half_marks-m1-requires : goal.half_marks-m1-requires
 half_marks-m1-requires c =
     let asked = ready c.args.level _ _ c.args.key.h1 c.block-r.ensures c.key_weight-d.ensures c.requires.fact_1.1 in
-    record { fact_1 = (asked.0.1, asked.0.2, asked.0.3); fact_2 = asked.1; fact_3 = room (goal.at.half_marks-m1-requires c).After-rows; fact_4 = c.requires.fact_4 }
+    record {
+      fact_1 = (asked.0.1, asked.0.2, asked.0.3);
+      fact_2 = asked.1;
+      fact_3 = room (goal.at.half_marks-m1-requires c).After-rows;
+      fact_4 = c.requires.fact_4;
+    }
 
 pub returns : goal.returns
 returns c =

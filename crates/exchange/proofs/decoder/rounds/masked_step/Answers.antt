@@ -61,7 +61,12 @@ overflow_cast-bound c = omega (arith, c.key_weight.ensures, sizes c.args.level)
 
 pub marks-again-requires : goal.marks-again-requires
 marks-again-requires c = let small = sizes c.args.level in
-    record { fact_1 = c.requires.fact_1; fact_2 = carried_in c.args.level _ _ _ c.requires.fact_2.0 c.requires.fact_2.1; fact_3 = c.requires.fact_3; fact_4 = (omega arith, omega arith) }
+    record {
+      fact_1 = c.requires.fact_1;
+      fact_2 = carried_in c.args.level _ _ _ c.requires.fact_2.0 c.requires.fact_2.1;
+      fact_3 = c.requires.fact_3;
+      fact_4 = (omega arith, omega arith);
+    }
 
 pub shape_of-f : goal.shape_of-f
 shape_of-f c = c.turned.auto.f ∙ c.marks-again.auto.f

@@ -53,12 +53,22 @@ long c = blank_length (blocks * block_bytes) c.blank_window-z.ensures
 pub add_product-requires : goal.add_product-requires
 add_product-requires c =
     let asked = ready c.args.level _ _ c.args.key.h0 c.block-r.ensures c.key_weight-d.ensures c.requires.fact_1.0 in
-    record { fact_1 = (asked.0.0, asked.0.1, asked.0.2, asked.0.3, first_long c.args.level c.block-r.result c.block-r.ensures c.blank_window-z.result c.args.s c.store.new.out (long (goal.at.add_product-requires c).After-blank_window-z) c.store.ensures); fact_2 = asked.1; fact_3 = rw c.block-r.ensures c.requires.fact_2.1.0; fact_4 = c.requires.fact_3 }
+    record {
+      fact_1 = (asked.0.0, asked.0.1, asked.0.2, asked.0.3, first_long c.args.level c.block-r.result c.block-r.ensures c.blank_window-z.result c.args.s c.store.new.out (long (goal.at.add_product-requires c).After-blank_window-z) c.store.ensures);
+      fact_2 = asked.1;
+      fact_3 = rw c.block-r.ensures c.requires.fact_2.1.0;
+      fact_4 = c.requires.fact_3;
+    }
 
 pub add_product-requires-2 : goal.add_product-requires-2
 add_product-requires-2 c =
     let asked = ready c.args.level _ _ c.args.key.h1 c.block-r.ensures c.key_weight-d.ensures c.requires.fact_1.1 in
-    record { fact_1 = (asked.0.0, asked.0.1, asked.0.2, asked.0.3, c.add_product.auto.z ∙ (first_long c.args.level c.block-r.result c.block-r.ensures c.blank_window-z.result c.args.s c.store.new.out (long (goal.at.add_product-requires-2 c).After-blank_window-z) c.store.ensures)); fact_2 = asked.1; fact_3 = rw c.block-r.ensures c.requires.fact_2.1.1; fact_4 = c.add_product.ensures.fact_2 }
+    record {
+      fact_1 = (asked.0.0, asked.0.1, asked.0.2, asked.0.3, c.add_product.auto.z ∙ (first_long c.args.level c.block-r.result c.block-r.ensures c.blank_window-z.result c.args.s c.store.new.out (long (goal.at.add_product-requires-2 c).After-blank_window-z) c.store.ensures));
+      fact_2 = asked.1;
+      fact_3 = rw c.block-r.ensures c.requires.fact_2.1.1;
+      fact_4 = c.add_product.ensures.fact_2;
+    }
 
 pub cut-requires : goal.cut-requires
 cut-requires c =

@@ -51,7 +51,10 @@ returns-then-i-gt0 c =
     let made = c.turned-first.ensures in
     let marked = black_is l (key_of l c.args.key) (pair_of c.args.st.e) _ (bits 64 c.args.s) _ _ c.requires.fact_2.1.0 c.bound_of-t.ensures.0 c.marks-m.ensures.fact_1.0 in
     let first = round_is l (key_of l start.key) (pair_of start.st.e) _ _ _ (bits 64 start.s) marked c.flipped.ensures made.fact_1.1 in
-    record { fact_1 = (made.fact_1.0, first ∙ sym (step_later l (key_of l start.key) (bits 64 start.s) (pair_of start.st.e) start.i later)); fact_2 = made.fact_2 }
+    record {
+      fact_1 = (made.fact_1.0, first ∙ sym (step_later l (key_of l start.key) (bits 64 start.s) (pair_of start.st.e) start.i later));
+      fact_2 = made.fact_2;
+    }
 
 pub returns : goal.returns
 unfolding gray
@@ -81,7 +84,12 @@ overflow_sub-t c = rw c.bound_of-t.ensures.0 (threshold_least c.args.level _)
 
 pub marks-m-requires : goal.marks-m-requires
 marks-m-requires c = let small = c.bound_of-t.ensures.1 in
-    record { fact_1 = c.requires.fact_1; fact_2 = carried_in c.args.level _ _ _ c.requires.fact_2.0 c.requires.fact_2.1; fact_3 = c.requires.fact_3; fact_4 = (small, omega (arith, small)) }
+    record {
+      fact_1 = c.requires.fact_1;
+      fact_2 = carried_in c.args.level _ _ _ c.requires.fact_2.0 c.requires.fact_2.1;
+      fact_3 = c.requires.fact_3;
+      fact_4 = (small, omega (arith, small));
+    }
 
 pub shape_of-f-then-i-gt0 : goal.shape_of-f-then-i-gt0
 shape_of-f-then-i-gt0 c = c.turned-first.auto.f ∙ c.marks-m.auto.f
@@ -90,10 +98,20 @@ pub without-gray-requires : goal.without-gray-requires
 without-gray-requires c = let l = level_of c.args.level in inside_by l.r c.marks-m.ensures.fact_1.1 (reaching_in l.r (key_of l c.args.key) _ _)
 
 pub masked_step-second-requires : goal.masked_step-second-requires
-masked_step-second-requires c = record { fact_1 = c.requires.fact_1; fact_2 = (c.requires.fact_2.0, c.turned-first.ensures.fact_1.0); fact_3 = c.turned-first.ensures.fact_2 }
+masked_step-second-requires c =
+    record {
+      fact_1 = c.requires.fact_1;
+      fact_2 = (c.requires.fact_2.0, c.turned-first.ensures.fact_1.0);
+      fact_3 = c.turned-first.ensures.fact_2;
+    }
 
 pub masked_step-requires : goal.masked_step-requires
-masked_step-requires c = record { fact_1 = c.requires.fact_1; fact_2 = (c.requires.fact_2.0, c.masked_step-second.ensures.fact_1.0); fact_3 = c.masked_step-second.ensures.fact_2 }
+masked_step-requires c =
+    record {
+      fact_1 = c.requires.fact_1;
+      fact_2 = (c.requires.fact_2.0, c.masked_step-second.ensures.fact_1.0);
+      fact_3 = c.masked_step-second.ensures.fact_2;
+    }
 
 pub shape_of-f : goal.shape_of-f
 shape_of-f c = c.masked_step.auto.f ∙ c.masked_step-second.auto.f ∙ c.turned-first.auto.f ∙ c.marks-m.auto.f

@@ -3,7 +3,11 @@ use mathlib.Core.Path.{refl}
 use Rattle.exchange.proofs.decoder.rounds.turned.Goals as goal
 
 pub returns : goal.returns
-returns c = record { fact_1 = ((c.residual-x.ensures.fact_1, c.requires.fact_2.1), refl); fact_2 = c.residual-x.ensures.fact_2 }
+returns c =
+    record {
+      fact_1 = ((c.residual-x.ensures.fact_1, c.requires.fact_2.1), refl);
+      fact_2 = c.residual-x.ensures.fact_2;
+    }
 
 pub residual-x-requires : goal.residual-x-requires
 residual-x-requires c = c.requires

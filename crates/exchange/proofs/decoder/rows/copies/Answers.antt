@@ -102,7 +102,10 @@ returns c =
     let was = c.loop-i in
     let given = c.args in
     let all : was.i ≡ given.n = omega arith in
-    record { fact_1 = copy_bits given.f.now was.f given.n (omega arith) (rw (← all) was.invariant.1); fact_2 = was.invariant.1.zeros }
+    record {
+      fact_1 = copy_bits given.f.now was.f given.n (omega arith) (rw (← all) was.invariant.1);
+      fact_2 = was.invariant.1.zeros;
+    }
 
 -- byte i of copy s lies within the rows
 room : (s : ℕ) (c : In-loop-i) → s < 8 → s * row_bytes + c.loop-i.i < length c.loop-i.f

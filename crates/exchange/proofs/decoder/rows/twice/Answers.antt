@@ -41,7 +41,11 @@ laid_is c =
 pub again-requires : goal.again-requires
 unfolding list_of
 again-requires c =
-    record { fact_1 = omega arith; fact_2 = c.requires.fact_2; fact_3 = filled_again _ _ _ _ (laid_is (goal.at.again-requires c).After-lay_eight) }
+    record {
+      fact_1 = omega arith;
+      fact_2 = c.requires.fact_2;
+      fact_3 = filled_again _ _ _ _ (laid_is (goal.at.again-requires c).After-lay_eight);
+    }
 
 -- what is there in the end
 last_is : (r : ℕ) (x f out last : List ℕ) → 64 ≤ r → 8 * ((2 * r + 63) / 64) ≤ length f
