@@ -1,5 +1,5 @@
 // The buffers of a case.
-ghost use Rattle.std.specs.Prelude.{◌≡◌, ◌≤◌, length, IfOk};
+ghost use Rattle.std.specs.Prelude.{◌≡◌, true, ◌≤◌, length, IfOk, OnErr};
 
 use lines::{Number, read_full, read_number};
 use std::io;
@@ -17,7 +17,8 @@ pub fn blank() -> [u8; MOST]
 // The length of the next buffer; 0 for one that the entry has not, and one more than the most for a length that is cut
 // or too large.
 pub fn size(input: &mut impl Read, is_there: bool) -> io::Result<usize>
-    ensures { IfOk result (λ n. n ≤ 16385) }
+    ensures most { IfOk result (λ n. n ≤ 16385) }
+    ensures err { OnErr result (is_there ≡ true) }
 {
     if !is_there {
         return Ok(0);

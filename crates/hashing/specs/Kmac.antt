@@ -34,7 +34,7 @@ whole_blocks Z w = Z ++ replicate ((w - length Z % w) % w) 0
 unfoldable pub bytepad : List ℕ → ℕ → List ℕ
 bytepad X w = whole_blocks (left_encode w ++ X) w
 
--- 3.3: cshake256(X, L, N, S) where N or S is not empty is KECCAK[512](bytepad(..) || X || 00, L); L is n in bits.
+-- 3.3: cSHAKE256(X, L, N, S) where N or S is not empty is KECCAK[512](bytepad(..) || X || 00, L); L is n in bits.
 -- The byte 04 is 00 and the 1 that begins the padding (proofs/Padding).
 unfoldable pub cshake_suffix : List Bool
 cshake_suffix = false ∷ false ∷ []

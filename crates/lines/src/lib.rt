@@ -22,8 +22,8 @@ fn digit(n: u8) -> u8
 
 // Lays n bytes from `from` on out in hex, from `at` on in the text.
 fn lay(bytes: &[u8], from: usize, n: usize, text: &mut [u8], at: usize)
-    requires n_in_bounds { from + n ≤ length bytes.now }
-    requires n_in_bounds_2 { at + n * 2 ≤ length text.old }
+    requires bytes_in_bounds { from + n ≤ length bytes.now }
+    requires text_in_bounds { at + n * 2 ≤ length text.old }
 {
     for i in 0..n {
         let byte = bytes[from + i];
