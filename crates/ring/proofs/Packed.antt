@@ -21,6 +21,10 @@ bit-flip x y k = bit-xor x y k ∙ xor-flip (bit_at x k) (bit_at y k)
 pub record Sum (f : ℕ → ℕ → Bool) (n s : ℕ) : Type 0 where
   pub bit : (e : ℕ) → e < 64 → bit_at s e ≡ parity n (λ m. f m e)
 
+-- a word that is another one has its bits
+pub bits_same : {x y : ℕ} → x ≡ y → (e : ℕ) → e < 64 → bit_at x e ≡ bit_at y e
+bits_same is e below = ap (λ (z : ℕ). bit_at z e) is
+
 module _ (f : ℕ → ℕ → Bool) where
   pub sum_one : {y : ℕ} → ((e : ℕ) → e < 64 → bit_at y e ≡ f 0 e) → Sum f 1 y
   unfolding parity

@@ -17,11 +17,8 @@ use Rattle.packing.proofs.Writing.{packed_row_is}
 use Rattle.packing.proofs.write_packed.Goals as goal
 use Rattle.packing.proofs.write_packed.Goals.{After-copy, After-positions-n, Start}
 
-judged : (c : Start) → PackClear c.args.level c.args.private_key.now (length c.args.packed.now)
-judged c = pack_clear c.requires
-
 cut : (c : Start) → length (take tail_bytes c.args.packed.now) ≡ tail_bytes
-cut c = length-take-le tail_bytes c.args.packed.now (let room = (judged c).room_is in omega arith)
+cut c = length-take-le tail_bytes c.args.packed.now (let room = (pack_clear c.requires).room_is in omega arith)
 
 -- what is left of the private key behind the positions
 rest_long : (c : After-positions-n) →
@@ -53,7 +50,7 @@ row_long c =
 pub lay-requires : goal.lay-requires
 lay-requires c =
     let few = sizes c.args.level in
-    let size = (judged (goal.at.lay-requires c).Start).key_size in
+    let size = (pack_clear c.requires).key_size in
     let row = row_long (goal.at.lay-requires c).After-copy in
     let small = row_small c.args.level in
     let n = c.positions-n.ensures in
@@ -74,13 +71,13 @@ pub overflow_mul-at : goal.overflow_mul-at
 overflow_mul-at c = omega (arith, sizes c.args.level, c.positions-n.ensures)
 
 pub slice_bounds-copy-count : goal.slice_bounds-copy-count
-slice_bounds-copy-count c = let size = (judged (goal.at.slice_bounds-copy-count c).Start).key_size in omega (arith, c.positions-n.ensures)
+slice_bounds-copy-count c = let size = (pack_clear c.requires).key_size in omega (arith, c.positions-n.ensures)
 
 pub slice_bounds-copy-start : goal.slice_bounds-copy-start
-slice_bounds-copy-start c = let size = (judged (goal.at.slice_bounds-copy-start c).Start).key_size in omega (arith, c.positions-n.ensures)
+slice_bounds-copy-start c = let size = (pack_clear c.requires).key_size in omega (arith, c.positions-n.ensures)
 
 pub slice_bounds-copy-end-2 : goal.slice_bounds-copy-end-2
-slice_bounds-copy-end-2 c = let room = (judged (goal.at.slice_bounds-copy-end-2 c).Start).room_is in omega arith
+slice_bounds-copy-end-2 c = let room = (pack_clear c.requires).room_is in omega arith
 
 pub slice_bounds-copy-end-3 : goal.slice_bounds-copy-end-3
 slice_bounds-copy-end-3 c = sym (cut (goal.at.slice_bounds-copy-end-3 c).Start)

@@ -16,9 +16,6 @@ use Rattle.packing.proofs.Writing.{two_bytes_are}
 use Rattle.packing.proofs.write_unpacked.Goals as goal
 use Rattle.packing.proofs.write_unpacked.Goals.{After-lay, After-positions-n, Start}
 
-judged : (c : Start) → UnpackClear c.args.level c.args.packed.now (length c.args.private_key.now)
-judged c = unpack_clear c.requires
-
 -- the front of the buffer has room for the positions
 cut : (c : After-positions-n) →
     let at = 2 * c.positions-n.result in
@@ -32,7 +29,7 @@ row_long : (c : Start) →
     length (take (length bytes - tail_bytes) (drop tail_bytes bytes)) ≡ byte_length (packed_bits (level_of c.args.level))
 row_long c =
     let bytes = c.args.packed.now in
-    let size = (judged c).packed_size in
+    let size = (unpack_clear c.requires).packed_size in
     ap length (rest_all tail_bytes bytes) ∙ length-drop tail_bytes bytes ∙ omega arith
 
 pub lay-requires : goal.lay-requires
@@ -64,7 +61,7 @@ rest_long c =
     ap length (rest_all at half) ∙ length-drop at half ∙ omega (arith, c.positions-n.ensures)
 
 tail_long : (c : Start) → length (take tail_bytes c.args.packed.now) ≡ tail_bytes
-tail_long c = length-take-le tail_bytes c.args.packed.now (let size = (judged c).packed_size in omega arith)
+tail_long c = length-take-le tail_bytes c.args.packed.now (let size = (unpack_clear c.requires).packed_size in omega arith)
 
 pub copy-requires : goal.copy-requires
 copy-requires c =
@@ -85,13 +82,13 @@ pub overflow_mul-at : goal.overflow_mul-at
 overflow_mul-at c = omega (arith, sizes c.args.level, c.positions-n.ensures)
 
 pub slice_bounds-lay-count : goal.slice_bounds-lay-count
-slice_bounds-lay-count c = let size = (judged (goal.at.slice_bounds-lay-count c).Start).packed_size in omega arith
+slice_bounds-lay-count c = let size = (unpack_clear c.requires).packed_size in omega arith
 
 pub slice_bounds-lay-start : goal.slice_bounds-lay-start
-slice_bounds-lay-start c = let size = (judged (goal.at.slice_bounds-lay-start c).Start).packed_size in omega arith
+slice_bounds-lay-start c = let size = (unpack_clear c.requires).packed_size in omega arith
 
 pub slice_bounds-lay-end-2 : goal.slice_bounds-lay-end-2
-slice_bounds-lay-end-2 c = let room = (judged (goal.at.slice_bounds-lay-end-2 c).Start).room_is in omega (arith, c.positions-n.ensures)
+slice_bounds-lay-end-2 c = let room = (unpack_clear c.requires).room_is in omega (arith, c.positions-n.ensures)
 
 pub slice_bounds-lay-end-3 : goal.slice_bounds-lay-end-3
 slice_bounds-lay-end-3 c = sym (cut (goal.at.slice_bounds-lay-end-3 c).After-positions-n)

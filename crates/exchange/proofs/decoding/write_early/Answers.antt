@@ -16,25 +16,14 @@ use Rattle.exchange.proofs.Judged.{DecodingClear, decoding_clear}
 use Rattle.exchange.proofs.decoder.Laws.{read_secret, good_read}
 use Rattle.exchange.proofs.decoder.Stopping.{fewest_is}
 use Rattle.exchange.proofs.decoding.write_early.Goals as goal
-use Rattle.exchange.proofs.decoding.write_early.Goals.{After-find_early-found, Start}
-
-judged : (c : Start) → DecodingClear c.args.level c.args.private_key.now c.args.syndrome.now (length c.args.e0.now) (length c.args.e1.now)
-judged c = decoding_clear c.requires
 
 pub find_early-found-requires : goal.find_early-found-requires
 find_early-found-requires c =
-    let is = judged (goal.at.find_early-found-requires c).Start in
+    let is = decoding_clear c.requires in
     record {
       fact_1 = good_read _ c.read_key.result _ (c.read_key.ensures.fact_1, c.read_key.ensures.fact_2) is.content.good_positions;
       fact_2 = rw c.load.ensures ((pad_rule _ _ is.syndrome_size (λ i. (c.shared_slice_known-2-1.given i).fits)).0 is.content.no_pad);
     }
-
--- the decoder's answer for what was read
-same : (c : After-find_early-found) →
-    let given = c.args in
-    let l = level_of given.level in
-    (key_of l c.read_key.result ≡ secret l given.private_key.now) × (bits 64 c.load.result ≡ bits 8 given.syndrome.now)
-same c = (read_secret _ c.read_key.result _ (c.read_key.ensures.fact_1, c.read_key.ensures.fact_2), c.load.ensures)
 
 -- at most five rounds
 pub overflow_cast-result : goal.overflow_cast-result
@@ -48,9 +37,9 @@ pub returns : goal.returns
 unfolding bytes_of
 returns c =
     let l = level_of c.args.level in
-    let is = judged (goal.at.returns c).Start in
-    let key = (same (goal.at.returns c).After-find_early-found).0 in
-    let s = (same (goal.at.returns c).After-find_early-found).1 in (
+    let is = decoding_clear c.requires in
+    let key = read_secret _ c.read_key.result _ (c.read_key.ensures.fact_1, c.read_key.ensures.fact_2) in
+    let s = c.load.ensures in (
       c.find_early-found.ensures.0 ∙ ap₂ (failed bgf l) key s,
       c.store.ensures ∙ ap₂ (list_of 8) is.room0_is (c.find_early-found.ensures.1 ∙ ap₂ (λ (h : Pair) (p : Poly). (found bgf l h p).half0) key s),
       c.store-2.ensures ∙ ap₂ (list_of 8) is.room1_is (c.find_early-found.ensures.2 ∙ ap₂ (λ (h : Pair) (p : Poly). (found bgf l h p).half1) key s),
@@ -58,13 +47,13 @@ returns c =
     )
 
 pub read_key-requires : goal.read_key-requires
-read_key-requires c = (judged (goal.at.read_key-requires c).Start).key_size
+read_key-requires c = (decoding_clear c.requires).key_size
 
 pub load-requires : goal.load-requires
-load-requires c = let is = judged (goal.at.load-requires c).Start in omega (arith, sizes c.args.level)
+load-requires c = let is = decoding_clear c.requires in omega (arith, sizes c.args.level)
 
 pub store-requires : goal.store-requires
-store-requires c = let is = judged (goal.at.store-requires c).Start in omega (arith, sizes c.args.level)
+store-requires c = let is = decoding_clear c.requires in omega (arith, sizes c.args.level)
 
 pub store-requires-2 : goal.store-requires-2
-store-requires-2 c = let is = judged (goal.at.store-requires-2 c).Start in omega (arith, sizes c.args.level)
+store-requires-2 c = let is = decoding_clear c.requires in omega (arith, sizes c.args.level)

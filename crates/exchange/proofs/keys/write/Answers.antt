@@ -16,9 +16,6 @@ use Rattle.exchange.proofs.keys.Laws.{Half, half_is, h0_half, h1_half, h0_invert
 use Rattle.exchange.proofs.keys.write.Goals as goal
 use Rattle.exchange.proofs.keys.write.Goals.{After-invert_unit-inverse, Start}
 
-judged : (c : Start) → MakingClear c.args.level c.args.seed.now (length c.args.public_key.now) (length c.args.private_key.now)
-judged c = making_clear c.requires.fact_1
-
 -- both halves are the seed's, and have weight d
 half0 : (c : Start) → let l = level_of c.args.level in Half l.r l.d (h0_of l c.args.seed.now)
 half0 c = h0_half (level_of c.args.level) c.args.seed.now c.requires.fact_2
@@ -60,18 +57,18 @@ times-requires c =
 
 pub store-requires : goal.store-requires
 store-requires c =
-    let is = judged (goal.at.store-requires c).Start in
+    let is = making_clear c.requires.fact_1 in
     omega (arith, sizes c.args.level)
 
 -- sigma is the rest of the seed
 pub tail_of-tail-requires : goal.tail_of-tail-requires
 tail_of-tail-requires c =
-    let is = judged (goal.at.tail_of-tail-requires c).Start in
+    let is = making_clear c.requires.fact_1 in
     omega (arith, ap length (rest_all 32 c.args.seed.now) ∙ length-drop 32 c.args.seed.now)
 
 pub write_private-requires : goal.write_private-requires
 write_private-requires c =
-    let is = judged (goal.at.write_private-requires c).Start in
+    let is = making_clear c.requires.fact_1 in
     let zero = half_is c.requires.fact_3.0 (half0 (goal.at.write_private-requires c).Start) in
     let one = half_is c.requires.fact_3.1 (half1 (goal.at.write_private-requires c).Start) in
     record { fact_1 = omega arith; fact_2 = (zero.inside, one.inside); fact_3 = (zero.weighs, one.weighs) }
@@ -80,12 +77,12 @@ pub returns : goal.returns
 unfolding bytes_of public_of sigma_of
 returns c =
     let product = (rw (c.block-r.ensures, c.requires.fact_3.1, inverse (goal.at.returns c).After-invert_unit-inverse) at c.times.ensures) ∙ mul_comm _ _ _ in
-    let public = rw (product, (judged (goal.at.returns c).Start).public_room) at c.store.ensures in
+    let public = rw (product, (making_clear c.requires.fact_1).public_room) at c.store.ensures in
     let private = rw (c.requires.fact_3.0, c.requires.fact_3.1, c.tail_of-tail.ensures, rest_all 32 c.args.seed.now, public) at c.write_private.ensures in
     (public, private)
 
 pub slice_bounds-tail_of-count : goal.slice_bounds-tail_of-count
-slice_bounds-tail_of-count c = let is = judged (goal.at.slice_bounds-tail_of-count c).Start in omega arith
+slice_bounds-tail_of-count c = let is = making_clear c.requires.fact_1 in omega arith
 
 pub slice_bounds-tail_of-start : goal.slice_bounds-tail_of-start
-slice_bounds-tail_of-start c = let is = judged (goal.at.slice_bounds-tail_of-start c).Start in omega arith
+slice_bounds-tail_of-start c = let is = making_clear c.requires.fact_1 in omega arith

@@ -19,10 +19,7 @@ use Rattle.exchange.proofs.Parts.{rest_all}
 use Rattle.exchange.proofs.Streams.{below_take}
 use Rattle.exchange.proofs.decoder.Laws.{pair_path, bgf_in, found_in, read_secret, good_read}
 use Rattle.exchange.proofs.opening.write.Goals as goal
-use Rattle.exchange.proofs.opening.write.Goals.{After-key_weight-at, After-load, After-polynomial-n, After-read_key-key, Start}
-
-judged : (c : Start) → OpeningClear c.args.level c.args.private_key.now c.args.ciphertext.now (length c.args.session_key.now)
-judged c = opening_clear c.requires
+use Rattle.exchange.proofs.opening.write.Goals.{After-key_weight-at, After-load, After-polynomial-n, After-read_key-key}
 
 -- c0 is the front of the ciphertext
 cut : (c : After-polynomial-n) →
@@ -83,7 +80,7 @@ digest_is c =
 pub write_session_key-requires : goal.write_session_key-requires
 write_session_key-requires c =
     let l = level_of c.args.level in
-    let is = judged (goal.at.write_session_key-requires c).Start in
+    let is = opening_clear c.requires in
     let inside = found_in bgf l (bgf_in l) (key_of l c.read_key-key.result) (bits 64 c.syndrome-s.result) in
     let at = 4 * c.key_weight-at.result in
     let rest = drop at c.args.private_key.now in
@@ -117,7 +114,7 @@ pub overflow_add-end : goal.overflow_add-end
 overflow_add-end c = let fits = room (goal.at.overflow_add-end c).After-key_weight-at in omega arith
 
 pub read_key-key-requires : goal.read_key-key-requires
-read_key-key-requires c = (judged (goal.at.read_key-key-requires c).Start).key_size
+read_key-key-requires c = (opening_clear c.requires).key_size
 
 pub slice_bounds-load-end : goal.slice_bounds-load-end
 slice_bounds-load-end c = sym (cut (goal.at.slice_bounds-load-end c).After-polynomial-n)

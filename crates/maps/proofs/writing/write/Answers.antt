@@ -13,11 +13,8 @@ use Rattle.maps.proofs.Written.{covered-length, covered_lent}
 use Rattle.maps.proofs.writing.write.Goals as goal
 use Rattle.maps.proofs.writing.write.Goals.{After-cover, Start}
 
-judged : (c : Start) → let given = c.args in WritingClear given.level given.session_key.now given.map.now (length given.bytes.now)
-judged c = writing_clear c.requires
-
 room : (c : Start) → tag_at ≤ length c.args.bytes.now
-room c = omega (arith, (judged c).room_is)
+room c = omega (arith, (writing_clear c.requires).room_is)
 
 cut : (c : Start) → length (take tag_at c.args.bytes.now) ≡ tag_at
 cut c = length-take-le tag_at c.args.bytes.now (room c)
@@ -52,13 +49,13 @@ pub slice_bounds-cover-end-2 : goal.slice_bounds-cover-end-2
 slice_bounds-cover-end-2 c = sym (cut (goal.at.slice_bounds-cover-end-2 c).Start)
 
 pub cover-requires : goal.cover-requires
-cover-requires c = (level_small _ (judged (goal.at.cover-requires c).Start).level_known, (judged (goal.at.cover-requires c).Start).map_size, cut (goal.at.cover-requires c).Start)
+cover-requires c = (level_small _ (writing_clear c.requires).level_known, (writing_clear c.requires).map_size, cut (goal.at.cover-requires c).Start)
 
 pub slice_bounds-tag_of-end : goal.slice_bounds-tag_of-end
 slice_bounds-tag_of-end c = omega (arith, long (goal.at.slice_bounds-tag_of-end c).After-cover)
 
 pub tag_of-tag-requires : goal.tag_of-tag-requires
-tag_of-tag-requires c = (judged (goal.at.tag_of-tag-requires c).Start).key_size
+tag_of-tag-requires c = (writing_clear c.requires).key_size
 
 pub slice_bounds-copy-count : goal.slice_bounds-copy-count
 slice_bounds-copy-count c = omega (arith, long (goal.at.slice_bounds-copy-count c).After-cover)

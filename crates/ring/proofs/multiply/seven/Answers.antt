@@ -5,7 +5,7 @@ use Prim.Native.Nat.{ℕ, ◌+◌, ◌<◌}
 use lib.Dec.{lit<}
 use lib.ListN.{get_or}
 use Rattle.hashing.specs.Lists.{bit_at}
-use Rattle.ring.proofs.Packed.{sum_one, sum_more}
+use Rattle.ring.proofs.Packed.{bits_same, sum_one, sum_more}
 use Rattle.ring.proofs.multiply.seven.Goals as goal
 
 pub returns : goal.returns
@@ -14,16 +14,13 @@ returns c =
     let t = given.t.now in
     let row : ℕ → ℕ = λ m. get_or t (get_or given.o m 0 + given.i) 0 in
     let f : ℕ → ℕ → Bool = λ m. bit_at (row m) in
-    (sum_more f _ (sum_more f _ (sum_more f _ (sum_more f _ (sum_more f _ (sum_more f _ (sum_one f (same c.entry.ensures))
-    (same c.entry-2.ensures))
-    (same c.entry-3.ensures))
-    (same c.entry-4.ensures))
-    (same c.entry-5.ensures))
-    (same c.entry-6.ensures))
-    (same c.entry-7.ensures)).bit
-  where
-    same : {x y : ℕ} → x ≡ y → (e : ℕ) → e < 64 → bit_at x e ≡ bit_at y e
-    same equal e below = ap (λ (z : ℕ). bit_at z e) equal
+    (sum_more f _ (sum_more f _ (sum_more f _ (sum_more f _ (sum_more f _ (sum_more f _ (sum_one f (bits_same c.entry.ensures))
+    (bits_same c.entry-2.ensures))
+    (bits_same c.entry-3.ensures))
+    (bits_same c.entry-4.ensures))
+    (bits_same c.entry-5.ensures))
+    (bits_same c.entry-6.ensures))
+    (bits_same c.entry-7.ensures)).bit
 
 pub entry-requires : goal.entry-requires
 entry-requires c = c.requires 0 (lit< tt)

@@ -15,20 +15,21 @@ small : (c : Start) (j : ℕ) → get_or c.args.x j 0 < 2 ^ 64
 small c j = let f : Fits w64 (get_or c.args.x j 0) = search rules in f.fits
 
 -- what a turn finds: a bit that there is room for, or a word to go on to
-found : (c : In-loop-turn) → ((j : ℕ) → get_or c.args.x j 0 < 2 ^ 64) →
+found : (c : In-loop-turn) →
     let was = c.loop-turn in
     let given = c.args in
     let t = count_trailing_zeros 64 (get_or was.left was.i 0) in
     (t ≤ 64) × (was.i + t / 64 ≤ given.r / 64) × (was.n + (1 - t / 64) ≤ given.count)
-found c fits =
+found c =
     let was = c.loop-turn in
+    let small : (j : ℕ) → get_or c.args.x j 0 < 2 ^ 64 = λ j. let f : Fits w64 (get_or c.args.x j 0) = search rules in f.fits in
     rw (← c.requires.fact_3)
-    (turn_fits c.args.x fits was.invariant.5 c.args.r c.requires.fact_2 (omega arith) _ refl (omega arith) (omega arith))
+    (turn_fits c.args.x small was.invariant.5 c.args.r c.requires.fact_2 (omega arith) _ refl (omega arith) (omega arith))
 
 pub loop-turn-preserved : goal.loop-turn-preserved
 loop-turn-preserved c =
     let was = c.loop-turn in
-    let turn = found (goal.at.loop-turn-preserved c).In-loop-turn (small (goal.at.loop-turn-preserved c).Start) in
+    let turn = found (goal.at.loop-turn-preserved c).In-loop-turn in
     let rest = c.without_lowest.ensures in (
       omega arith,
       omega arith,
@@ -49,25 +50,25 @@ pub loop-turn-init : goal.loop-turn-init
 loop-turn-init c = (omega arith, omega arith, omega arith, refl, omega arith, listing_start c.args.x (small (goal.at.loop-turn-init c).Start) _)
 
 pub overflow_cast-none : goal.overflow_cast-none
-overflow_cast-none c = let turn = found (goal.at.overflow_cast-none c).In-loop-turn (small (goal.at.overflow_cast-none c).Start) in omega arith
+overflow_cast-none c = let turn = found (goal.at.overflow_cast-none c).In-loop-turn in omega arith
 
 pub overflow_cast-out : goal.overflow_cast-out
-overflow_cast-out c = let turn = found (goal.at.overflow_cast-out c).In-loop-turn (small (goal.at.overflow_cast-out c).Start) in omega arith
+overflow_cast-out c = let turn = found (goal.at.overflow_cast-out c).In-loop-turn in omega arith
 
 pub overflow_add-out : goal.overflow_add-out
-overflow_add-out c = let turn = found (goal.at.overflow_add-out c).In-loop-turn (small (goal.at.overflow_add-out c).Start) in omega arith
+overflow_add-out c = let turn = found (goal.at.overflow_add-out c).In-loop-turn in omega arith
 
 pub overflow_cast-out-in-loop-turn : goal.overflow_cast-out-in-loop-turn
-overflow_cast-out-in-loop-turn c = let turn = found (goal.at.overflow_cast-out-in-loop-turn c).In-loop-turn (small (goal.at.overflow_cast-out-in-loop-turn c).Start) in omega arith
+overflow_cast-out-in-loop-turn c = let turn = found (goal.at.overflow_cast-out-in-loop-turn c).In-loop-turn in omega arith
 
 pub overflow_cast-zeros : goal.overflow_cast-zeros
-overflow_cast-zeros c = let turn = found (goal.at.overflow_cast-zeros c).In-loop-turn (small (goal.at.overflow_cast-zeros c).Start) in omega arith
+overflow_cast-zeros c = let turn = found (goal.at.overflow_cast-zeros c).In-loop-turn in omega arith
 
 pub overflow_add-i : goal.overflow_add-i
-overflow_add-i c = let turn = found (goal.at.overflow_add-i c).In-loop-turn (small (goal.at.overflow_add-i c).Start) in omega arith
+overflow_add-i c = let turn = found (goal.at.overflow_add-i c).In-loop-turn in omega arith
 
 pub overflow_sub-n : goal.overflow_sub-n
-overflow_sub-n c = let turn = found (goal.at.overflow_sub-n c).In-loop-turn (small (goal.at.overflow_sub-n c).Start) in omega arith
+overflow_sub-n c = let turn = found (goal.at.overflow_sub-n c).In-loop-turn in omega arith
 
 pub overflow_add-n : goal.overflow_add-n
-overflow_add-n c = let turn = found (goal.at.overflow_add-n c).In-loop-turn (small (goal.at.overflow_add-n c).Start) in omega arith
+overflow_add-n c = let turn = found (goal.at.overflow_add-n c).In-loop-turn in omega arith

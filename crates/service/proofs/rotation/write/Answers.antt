@@ -14,10 +14,7 @@ use Rattle.service.specs.Rotation.{turned, turned_pair, rotated}
 use Rattle.service.proofs.Judged.{RotateClear, rotate_clear}
 use Rattle.service.proofs.Keys
 use Rattle.service.proofs.rotation.write.Goals as goal
-use Rattle.service.proofs.rotation.write.Goals.{After-read_key-key, After-turned-h0, After-turned-h1, Start}
-
-judged : (c : Start) → RotateClear c.args.level c.args.k c.args.private_key.now (length c.args.rotated.now)
-judged c = rotate_clear c.requires
+use Rattle.service.proofs.rotation.write.Goals.{After-read_key-key, After-turned-h0, After-turned-h1}
 
 -- the positions of each half, as they were read
 room : (c : After-read_key-key) → (c.key_weight-d.result ≤ length c.read_key-key.result.h0) × (c.key_weight-d.result ≤ length c.read_key-key.result.h1)
@@ -42,10 +39,10 @@ turned-h0-requires c =
     let few = sizes c.args.level in
     let long = length-take-le c.key_weight-d.result c.read_key-key.result.h0 (room (goal.at.turned-h0-requires c).After-read_key-key).0 in
     let weight = c.key_weight-d.ensures in
-    let within = (judged (goal.at.turned-h0-requires c).Start).within in
+    let within = (rotate_clear c.requires).within in
     record {
       fact_1 = rw c.block-r.ensures (omega arith, r_small c.args.level, omega arith);
-      fact_2 = rw c.block-r.ensures (rw (list0 (goal.at.turned-h0-requires c).After-read_key-key) (Keys.half0 c.args.level c.args.private_key.now (judged (goal.at.turned-h0-requires c).Start).good_positions).inside);
+      fact_2 = rw c.block-r.ensures (rw (list0 (goal.at.turned-h0-requires c).After-read_key-key) (Keys.half0 c.args.level c.args.private_key.now (rotate_clear c.requires).good_positions).inside);
     }
 
 pub turned-h1-requires : goal.turned-h1-requires
@@ -54,10 +51,10 @@ turned-h1-requires c =
     let few = sizes c.args.level in
     let long = length-take-le c.key_weight-d.result c.read_key-key.result.h1 (room (goal.at.turned-h1-requires c).After-read_key-key).1 in
     let weight = c.key_weight-d.ensures in
-    let within = (judged (goal.at.turned-h1-requires c).Start).within in
+    let within = (rotate_clear c.requires).within in
     record {
       fact_1 = rw c.block-r.ensures (omega arith, r_small c.args.level, omega arith);
-      fact_2 = rw c.block-r.ensures (rw (list1 (goal.at.turned-h1-requires c).After-read_key-key) (Keys.half1 c.args.level c.args.private_key.now (judged (goal.at.turned-h1-requires c).Start).good_positions).inside);
+      fact_2 = rw c.block-r.ensures (rw (list1 (goal.at.turned-h1-requires c).After-read_key-key) (Keys.half1 c.args.level c.args.private_key.now (rotate_clear c.requires).good_positions).inside);
     }
 
 -- the words of each half
@@ -93,7 +90,7 @@ start_within c =
 
 pub write_private-requires : goal.write_private-requires
 write_private-requires c =
-    let is = judged (goal.at.write_private-requires c).Start in
+    let is = rotate_clear c.requires in
     let first = half_is (words0 (goal.at.write_private-requires c).After-turned-h0) (Keys.first c.args.level c.args.private_key.now is.good_positions c.args.k) in
     let second = half_is (words1 (goal.at.write_private-requires c).After-turned-h1) (Keys.second c.args.level c.args.private_key.now is.good_positions c.args.k) in
     let rest = rest_long (goal.at.write_private-requires c).After-read_key-key in
@@ -114,7 +111,7 @@ pub overflow_mul-at : goal.overflow_mul-at
 overflow_mul-at c = omega (arith, sizes c.args.level, c.key_weight-d.ensures)
 
 pub read_key-key-requires : goal.read_key-key-requires
-read_key-key-requires c = (judged (goal.at.read_key-key-requires c).Start).key_size
+read_key-key-requires c = (rotate_clear c.requires).key_size
 
 pub slice_bounds-p0-end : goal.slice_bounds-p0-end
 slice_bounds-p0-end c = (room (goal.at.slice_bounds-p0-end c).After-read_key-key).0

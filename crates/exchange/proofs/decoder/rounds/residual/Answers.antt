@@ -42,19 +42,30 @@ module _ (level r : ℕ) (is : r ≡ (level_of level).r) where
   stored_is z s out long stored =
       ap (λ (xs : List ℕ). xs ++ drop bytes z) (stored ∙ ap (λ (m : ℕ). list_of 8 m (bits 64 s)) (whole z long))
 
-  first_long : (z s out : List ℕ) → length z ≡ blocks * block_bytes → out ≡ list_of 8 (length (take bytes z)) (bits 64 s)
+  filled_long : (z s out : List ℕ) → length z ≡ blocks * block_bytes → out ≡ list_of 8 (length (take bytes z)) (bits 64 s)
       → length (out ++ drop bytes z) ≡ blocks * block_bytes
-  first_long z s out long stored = ap length (stored_is z s out long stored) ∙ filled_length _ (bits 64 s) _ (room z long) ∙ long
+  filled_long z s out long stored = ap length (stored_is z s out long stored) ∙ filled_length _ (bits 64 s) _ (room z long) ∙ long
 
 -- the window before it has anything, with the syndrome, and after each product
 long : (c : After-blank_window-z) → length c.blank_window-z.result ≡ blocks * block_bytes
 long c = blank_length (blocks * block_bytes) c.blank_window-z.ensures
 
+first_long : (c : After-store) → length (c.store.new.out ++ drop (8 * (c.block-r.result / 64 + 1)) c.blank_window-z.result) ≡ blocks * block_bytes
+first_long c = filled_long c.args.level _ c.block-r.ensures _ c.args.s _ (blank_length (blocks * block_bytes) c.blank_window-z.ensures) c.store.ensures
+
+second_long : (c : After-add_product) → length c.add_product.new.z ≡ blocks * block_bytes
+second_long c = c.add_product.auto.z ∙ filled_long c.args.level _ c.block-r.ensures _ c.args.s _ (blank_length (blocks * block_bytes) c.blank_window-z.ensures) c.store.ensures
+
+third_long : (c : After-add_product-2) → length c.add_product-2.new.z ≡ blocks * block_bytes
+third_long c =
+    c.add_product-2.auto.z ∙ c.add_product.auto.z
+    ∙ filled_long c.args.level _ c.block-r.ensures _ c.args.s _ (blank_length (blocks * block_bytes) c.blank_window-z.ensures) c.store.ensures
+
 pub add_product-requires : goal.add_product-requires
 add_product-requires c =
     let asked = ready c.args.level _ _ c.args.key.h0 c.block-r.ensures c.key_weight-d.ensures c.requires.fact_1.0 in
     record {
-      fact_1 = (asked.0.0, asked.0.1, asked.0.2, asked.0.3, first_long c.args.level c.block-r.result c.block-r.ensures c.blank_window-z.result c.args.s c.store.new.out (long (goal.at.add_product-requires c).After-blank_window-z) c.store.ensures);
+      fact_1 = (asked.0.0, asked.0.1, asked.0.2, asked.0.3, first_long (goal.at.add_product-requires c).After-store);
       fact_2 = asked.1;
       fact_3 = rw c.block-r.ensures c.requires.fact_2.1.0;
       fact_4 = c.requires.fact_3;
@@ -64,7 +75,7 @@ pub add_product-requires-2 : goal.add_product-requires-2
 add_product-requires-2 c =
     let asked = ready c.args.level _ _ c.args.key.h1 c.block-r.ensures c.key_weight-d.ensures c.requires.fact_1.1 in
     record {
-      fact_1 = (asked.0.0, asked.0.1, asked.0.2, asked.0.3, c.add_product.auto.z ∙ (first_long c.args.level c.block-r.result c.block-r.ensures c.blank_window-z.result c.args.s c.store.new.out (long (goal.at.add_product-requires-2 c).After-blank_window-z) c.store.ensures));
+      fact_1 = (asked.0.0, asked.0.1, asked.0.2, asked.0.3, second_long (goal.at.add_product-requires-2 c).After-add_product);
       fact_2 = asked.1;
       fact_3 = rw c.block-r.ensures c.requires.fact_2.1.1;
       fact_4 = c.add_product.ensures.fact_2;
@@ -76,7 +87,7 @@ cut-requires c =
       fact_1 = omega (arith, c.block-r.ensures);
       fact_2 = λ k past.
           ap (λ (p : Poly). p k) c.load.ensures
-          ∙ bits_out 8 (take (8 * (c.block-r.result / 64 + 1)) c.add_product-2.new.z) k (lit< tt) (rw (whole c.args.level c.block-r.result c.block-r.ensures c.add_product-2.new.z (c.add_product-2.auto.z ∙ c.add_product.auto.z ∙ (first_long c.args.level c.block-r.result c.block-r.ensures c.blank_window-z.result c.args.s c.store.new.out (long (goal.at.cut-requires c).After-blank_window-z) c.store.ensures))) (omega arith));
+          ∙ bits_out 8 (take (8 * (c.block-r.result / 64 + 1)) c.add_product-2.new.z) k (lit< tt) (rw (whole c.args.level _ c.block-r.ensures _ (third_long (goal.at.cut-requires c).After-add_product-2)) (omega arith));
     }
 
 -- two products by what the positions list
@@ -113,28 +124,28 @@ returns c =
     }
 
 pub slice_bounds-z-end : goal.slice_bounds-z-end
-slice_bounds-z-end c = room c.args.level c.block-r.result c.block-r.ensures c.blank_window-z.result (long (goal.at.slice_bounds-z-end c).After-blank_window-z)
+slice_bounds-z-end c = room c.args.level _ c.block-r.ensures _ (long (goal.at.slice_bounds-z-end c).After-blank_window-z)
 
 pub slice_bounds-store-end : goal.slice_bounds-store-end
-slice_bounds-store-end c = sym (length-take-le _ _ (room c.args.level c.block-r.result c.block-r.ensures c.blank_window-z.result (long (goal.at.slice_bounds-store-end c).After-blank_window-z)))
+slice_bounds-store-end c = sym (whole c.args.level _ c.block-r.ensures _ (long (goal.at.slice_bounds-store-end c).After-blank_window-z))
 
 pub store-requires : goal.store-requires
-store-requires c = let size = sizes c.args.level in rw (length-take-le _ _ (room c.args.level c.block-r.result c.block-r.ensures c.blank_window-z.result (long (goal.at.store-requires c).After-blank_window-z))) (omega (arith, c.block-r.ensures))
+store-requires c = let size = sizes c.args.level in rw (whole c.args.level _ c.block-r.ensures _ (long (goal.at.store-requires c).After-blank_window-z)) (omega (arith, c.block-r.ensures))
 
 pub slice_bounds-add_product-end-2 : goal.slice_bounds-add_product-end-2
-slice_bounds-add_product-end-2 c = sym (first_long c.args.level c.block-r.result c.block-r.ensures c.blank_window-z.result c.args.s c.store.new.out (long (goal.at.slice_bounds-add_product-end-2 c).After-blank_window-z) c.store.ensures)
+slice_bounds-add_product-end-2 c = sym (first_long (goal.at.slice_bounds-add_product-end-2 c).After-store)
 
 pub slice_bounds-add_product-end-4 : goal.slice_bounds-add_product-end-4
-slice_bounds-add_product-end-4 c = sym (c.add_product.auto.z ∙ (first_long c.args.level c.block-r.result c.block-r.ensures c.blank_window-z.result c.args.s c.store.new.out (long (goal.at.slice_bounds-add_product-end-4 c).After-blank_window-z) c.store.ensures))
+slice_bounds-add_product-end-4 c = sym (second_long (goal.at.slice_bounds-add_product-end-4 c).After-add_product)
 
 pub slice_bounds-z-end-2 : goal.slice_bounds-z-end-2
-slice_bounds-z-end-2 c = room c.args.level c.block-r.result c.block-r.ensures c.add_product-2.new.z (c.add_product-2.auto.z ∙ c.add_product.auto.z ∙ (first_long c.args.level c.block-r.result c.block-r.ensures c.blank_window-z.result c.args.s c.store.new.out (long (goal.at.slice_bounds-z-end-2 c).After-blank_window-z) c.store.ensures))
+slice_bounds-z-end-2 c = room c.args.level _ c.block-r.ensures _ (third_long (goal.at.slice_bounds-z-end-2 c).After-add_product-2)
 
 pub slice_bounds-load-end : goal.slice_bounds-load-end
-slice_bounds-load-end c = sym (whole c.args.level c.block-r.result c.block-r.ensures c.add_product-2.new.z (c.add_product-2.auto.z ∙ c.add_product.auto.z ∙ (first_long c.args.level c.block-r.result c.block-r.ensures c.blank_window-z.result c.args.s c.store.new.out (long (goal.at.slice_bounds-load-end c).After-blank_window-z) c.store.ensures)))
+slice_bounds-load-end c = sym (whole c.args.level _ c.block-r.ensures _ (third_long (goal.at.slice_bounds-load-end c).After-add_product-2))
 
 pub load-requires : goal.load-requires
-load-requires c = let size = sizes c.args.level in rw (whole c.args.level c.block-r.result c.block-r.ensures c.add_product-2.new.z (c.add_product-2.auto.z ∙ c.add_product.auto.z ∙ (first_long c.args.level c.block-r.result c.block-r.ensures c.blank_window-z.result c.args.s c.store.new.out (long (goal.at.load-requires c).After-blank_window-z) c.store.ensures))) (omega (arith, c.block-r.ensures))
+load-requires c = let size = sizes c.args.level in rw (whole c.args.level _ c.block-r.ensures _ (third_long (goal.at.load-requires c).After-add_product-2)) (omega (arith, c.block-r.ensures))
 
 pub shape_of-f : goal.shape_of-f
 shape_of-f c = c.add_product-2.auto.f ∙ c.add_product.auto.f

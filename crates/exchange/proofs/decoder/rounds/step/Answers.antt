@@ -9,24 +9,46 @@ use Rattle.exchange.specs.decoder.Decoder.{Pair, threshold, residual, reaching, 
 use Rattle.exchange.specs.inner.Working.{key_of, pair_of}
 use Rattle.exchange.proofs.decoder.Laws.{inside_by, reaching_in, flipped_in, carried_in, threshold_least, step_first, step_later}
 use Rattle.exchange.proofs.decoder.rounds.step.Goals as goal
-use Rattle.exchange.proofs.decoder.rounds.step.Goals.{After-bound_of-t, After-marks-m, After-turned-first}
+use Rattle.exchange.proofs.decoder.rounds.step.Goals.{After-marks-m, After-turned-first}
 
--- what the marks are, of the residual and the bound that they were given: black, and those that reach three less
-black_is : (l : Level) (h e m : Pair) (s x : Poly) (t : ℕ) → x ≡ residual l.r h s e → t ≡ threshold l (weight l.r x) → m ≡ reaching l.r h x t
-    → m ≡ black l h s e
-unfolding black bound_of
-black_is l h e m s x t is_x is_t is = is ∙ ap₂ (reaching l.r h) is_x (is_t ∙ ap (λ (a : Poly). threshold l (weight l.r a)) is_x)
-
-wide_is : (l : Level) (h e m : Pair) (s x : Poly) (t : ℕ) → x ≡ residual l.r h s e → t ≡ threshold l (weight l.r x) → m ≡ reaching l.r h x (t - 3)
-    → m ≡ reaching l.r h (residual l.r h s e) (bound_of l h s e - 3)
+-- T, of the residual that is carried along
+bound_is : (l : Level) (h e : Pair) (s x : Poly) (t : ℕ) → x ≡ residual l.r h s e → t ≡ threshold l (weight l.r x) → t ≡ bound_of l h s e
 unfolding bound_of
-wide_is l h e m s x t is_x is_t is =
-    is ∙ ap₂ (λ (a : Poly) (t : ℕ). reaching l.r h a (t - 3)) is_x (is_t ∙ ap (λ (a : Poly). threshold l (weight l.r a)) is_x)
+bound_is l h e s x t carried is = is ∙ ap (λ (a : Poly). threshold l (weight l.r a)) carried
 
--- the round that follows
-round_is : (l : Level) (h e m f g : Pair) (s : Poly) → m ≡ black l h s e → f ≡ flipped e m → g ≡ f → g ≡ round l h s e
+black_is : (c : After-marks-m) →
+    let start = c.args in
+    let l = level_of start.level in
+    pair_of c.marks-m.result.high ≡ black l (key_of l start.key) (bits 64 start.s) (pair_of start.st.e)
+unfolding black
+black_is c =
+    let l = level_of c.args.level in
+    let carried = c.requires.fact_2.1.0 in
+    c.marks-m.ensures.fact_1.0
+    ∙ ap₂ (reaching l.r (key_of l c.args.key)) carried (bound_is l _ _ _ _ _ carried c.bound_of-t.ensures.0)
+
+wide_is : (c : After-marks-m) →
+    let start = c.args in
+    let l = level_of start.level in
+    let h = key_of l start.key in
+    let s = bits 64 start.s in
+    let e = pair_of start.st.e in
+    pair_of c.marks-m.result.low ≡ reaching l.r h (residual l.r h s e) (bound_of l h s e - 3)
+wide_is c =
+    let l = level_of c.args.level in
+    let carried = c.requires.fact_2.1.0 in
+    c.marks-m.ensures.fact_1.1
+    ∙ ap₂ (λ (a : Poly) (t : ℕ). reaching l.r (key_of l c.args.key) a (t - 3)) carried (bound_is l _ _ _ _ _ carried c.bound_of-t.ensures.0)
+
+first_is : (c : After-turned-first) →
+    let start = c.args in
+    let l = level_of start.level in
+    let h = key_of l start.key in
+    let s = bits 64 start.s in
+    let e = pair_of start.st.e in
+    pair_of c.marks-m.result.high ≡ black l h s e → pair_of c.turned-first.result.e ≡ round l h s e
 unfolding round
-round_is l h e m f g s is_m is_f is_g = is_g ∙ is_f ∙ ap (flipped e) is_m
+first_is c marked = c.turned-first.ensures.fact_1.1 ∙ c.flipped.ensures ∙ ap (flipped (pair_of c.args.st.e)) marked
 
 pub flipped-requires : goal.flipped-requires
 flipped-requires c =
@@ -49,8 +71,8 @@ returns-then-i-gt0 c =
     let l = level_of start.level in
     let later : 0 < start.i = omega arith in
     let made = c.turned-first.ensures in
-    let marked = black_is l (key_of l c.args.key) (pair_of c.args.st.e) _ (bits 64 c.args.s) _ _ c.requires.fact_2.1.0 c.bound_of-t.ensures.0 c.marks-m.ensures.fact_1.0 in
-    let first = round_is l (key_of l start.key) (pair_of start.st.e) _ _ _ (bits 64 start.s) marked c.flipped.ensures made.fact_1.1 in
+    let marked = black_is (goal.at.returns-then-i-gt0 c).After-marks-m in
+    let first = first_is (goal.at.returns-then-i-gt0 c).After-turned-first marked in
     record {
       fact_1 = (made.fact_1.0, first ∙ sym (step_later l (key_of l start.key) (bits 64 start.s) (pair_of start.st.e) start.i later));
       fact_2 = made.fact_2;
@@ -63,14 +85,14 @@ returns c =
     let l = level_of start.level in
     let h = key_of l start.key in
     let s = bits 64 start.s in
-    let marked = black_is l (key_of l c.args.key) (pair_of c.args.st.e) _ (bits 64 c.args.s) _ _ c.requires.fact_2.1.0 c.bound_of-t.ensures.0 c.marks-m.ensures.fact_1.0 in
+    let marked = black_is (goal.at.returns c).After-marks-m in
     let first : start.i ≤ 0 = omega arith in
     let made = c.masked_step.ensures in record {
       fact_1 = (
         made.fact_1.0,
         made.fact_1.1
-            ∙ ap₂ (masked_step l h s) (c.without-gray.ensures ∙ ap₂ without (wide_is l (key_of l c.args.key) (pair_of c.args.st.e) _ (bits 64 c.args.s) _ _ c.requires.fact_2.1.0 c.bound_of-t.ensures.0 c.marks-m.ensures.fact_1.1) marked)
-            (c.masked_step-second.ensures.fact_1.1 ∙ ap₂ (masked_step l h s) marked (round_is l h (pair_of start.st.e) _ _ _ s marked c.flipped.ensures c.turned-first.ensures.fact_1.1))
+            ∙ ap₂ (masked_step l h s) (c.without-gray.ensures ∙ ap₂ without (wide_is (goal.at.returns c).After-marks-m) marked)
+            (c.masked_step-second.ensures.fact_1.1 ∙ ap₂ (masked_step l h s) marked (first_is (goal.at.returns c).After-turned-first marked))
             ∙ sym (step_first l h s (pair_of start.st.e) start.i first),
       );
       fact_2 = made.fact_2;

@@ -5,25 +5,21 @@ use Prim.Native.Nat.{ℕ, ◌+◌, ◌<◌}
 use lib.Dec.{lit<}
 use lib.ListN.{get_or}
 use Rattle.hashing.specs.Lists.{bit_at}
-use Rattle.ring.proofs.Packed.{sum_one, sum_more}
+use Rattle.ring.proofs.Packed.{bits_same, sum_one, sum_more}
 use Rattle.exchange.proofs.decoder.rows.eight.Goals as goal
-
--- the bits of a byte that is read
-same : {b x : ℕ} → b ≡ x → (e : ℕ) → e < 64 → bit_at b e ≡ bit_at x e
-same is e below = ap (λ (y : ℕ). bit_at y e) is
 
 pub returns : goal.returns
 returns c =
     let given = c.args in
     let f : ℕ → ℕ → Bool = λ m e. bit_at (get_or given.f.now (get_or given.at m 0 + given.i) 0) e in
-    (sum_more f _ (sum_more f _ (sum_more f _ (sum_more f _ (sum_more f _ (sum_more f _ (sum_more f _ (sum_one f (same c.byte.ensures))
-    (same c.byte-2.ensures))
-    (same c.byte-3.ensures))
-    (same c.byte-4.ensures))
-    (same c.byte-5.ensures))
-    (same c.byte-6.ensures))
-    (same c.byte-7.ensures))
-    (same c.byte-8.ensures)).bit
+    (sum_more f _ (sum_more f _ (sum_more f _ (sum_more f _ (sum_more f _ (sum_more f _ (sum_more f _ (sum_one f (bits_same c.byte.ensures))
+    (bits_same c.byte-2.ensures))
+    (bits_same c.byte-3.ensures))
+    (bits_same c.byte-4.ensures))
+    (bits_same c.byte-5.ensures))
+    (bits_same c.byte-6.ensures))
+    (bits_same c.byte-7.ensures))
+    (bits_same c.byte-8.ensures)).bit
 
 pub byte-requires : goal.byte-requires
 byte-requires c = c.requires 0 (lit< tt)
