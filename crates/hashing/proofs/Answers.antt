@@ -10,11 +10,31 @@ use lib.Dec.{eqb}
 use lib.ListN.{length, replicate}
 use Rattle.hashing.specs.Answers.{Reason, Output, Outcome, differs, first_of, zeros, content, settle, reported}
 use Rattle.hashing.specs.Answers.Outcome.{gives}
+use Rattle.hashing.specs.Refusals.{number}
+use Rattle.hashing.specs.declared.refusal.Refusal.{Refusal}
+use Rattle.hashing.specs.declared.refusal.Refusal.TheVariants.{UnknownLevel, WrongLength, PadBit, BadPosition, NoInverse, Undecoded, CutRecord, UnknownKind, WrongBody, WordsRanOut, AnotherTag, AnotherKart, OldCounter, TurnTooFar}
 
 -- lengths that do not differ
 pub agree : (a b : ℕ) → differs a b ≡ false → a ≡ b
 unfolding differs
 agree a b e = eqb-true a b (not-false (eqb a b) e)
+
+-- no refusal has the number 0
+pub numbered : (refusal : Refusal) → number refusal ≡ 0 → ⊥
+numbered UnknownLevel e = omega arith
+numbered WrongLength e = omega arith
+numbered PadBit e = omega arith
+numbered BadPosition e = omega arith
+numbered NoInverse e = omega arith
+numbered Undecoded e = omega arith
+numbered CutRecord e = omega arith
+numbered UnknownKind e = omega arith
+numbered WrongBody e = omega arith
+numbered WordsRanOut e = omega arith
+numbered AnotherTag e = omega arith
+numbered AnotherKart e = omega arith
+numbered OldCounter e = omega arith
+numbered TurnTooFar e = omega arith
 
 -- each output's value
 abbrev pub values : List Output → List (List ℕ)
@@ -35,6 +55,11 @@ module _ (reasons : List Reason) (outputs : List Output) where
       go zero some = absurd (some refl)
       go (suc n) some = refl
 
+  -- the same of a refusal by its name
+  pub refuses : (refusal : Refusal) → number refusal ≡ first_of reasons
+      → settle reasons outputs ≡ gives (number refusal) (map zeros outputs)
+  refuses refusal first = refused first (numbered refusal)
+
   -- and what is then reported
   pub done_reports : (numbers : List ℕ) → first_of reasons ≡ 0 → reported (settle reasons outputs) numbers ≡ numbers
   unfolding settle content reported
@@ -48,6 +73,10 @@ module _ (reasons : List Reason) (outputs : List Output) where
       go : (n : ℕ) → (n ≡ 0 → ⊥) → content n (record { room = length numbers; value = numbers }) ≡ replicate (length numbers) 0
       go zero some = absurd (some refl)
       go (suc n) some = refl
+
+  pub refuses_reports : (numbers : List ℕ) (refusal : Refusal) → number refusal ≡ first_of reasons
+      → reported (settle reasons outputs) numbers ≡ replicate (length numbers) 0
+  refuses_reports numbers refusal first = refused_reports numbers first (numbered refusal)
 
   -- an answer 0, read backwards: nothing applies, and each output has its value
   pub settled : {contents : List (List ℕ)} → settle reasons outputs ≡ gives 0 contents

@@ -22,10 +22,8 @@ fn seven_steps(before: u64) -> u64
     ensures { Steps 7 before result }
 {
     let mut register = before;
-    let mut i = 0usize;
-    while i < 7 {
+    for i in 0usize..7 {
         register = stepped(register);
-        i += 1;
     }
     register
 }
@@ -35,10 +33,8 @@ fn register(i: usize) -> u64
     ensures { Begins i result }
 {
     let mut register = 1;
-    let mut round = 0;
-    while round < i {
+    for round in 0..i {
         register = seven_steps(register);
-        round += 1;
     }
     register
 }
@@ -58,16 +54,14 @@ fn constant(begins: u64) -> u64
 {
     let mut constant = 0;
     let mut register = begins;
-    let mut j = 0;
-    while j < 7 {
+    for j in 0..7 {
         constant += placed(register, j);
         register = stepped(register);
-        j += 1;
     }
     constant
 }
 
-// The constant of each round (3.2.5).
+// The constant of each round (3.2.5), written out: the compiler works out calls with known numbers, and no loop of 24.
 fn round_constants() -> [u64; 24]
     ensures { result ≡ tab 24 round_constant }
 {
@@ -141,10 +135,8 @@ fn six_walked(before: Walk, place: usize) -> Walk
     ensures { Goes 6 place before result }
 {
     let mut walk = before;
-    let mut i = 0usize;
-    while i < 6 {
+    for i in 0usize..6 {
         walk = walked(walk, place);
-        i += 1;
     }
     walk
 }
@@ -160,10 +152,8 @@ fn turn(place: usize) -> u32
         t: 0,
         turn: 0,
     };
-    let mut i = 0usize;
-    while i < 4 {
+    for i in 0usize..4 {
         walk = six_walked(walk, place);
-        i += 1;
     }
     walk.turn
 }
@@ -264,7 +254,8 @@ fn either(b: u64, c: u64, d: u64) -> u64
     b ^ (c | d)
 }
 
-// χ, row by row, on what θ, ρ and π bring there: which lanes are then inverted follows from the six (`arriving`).
+// χ, row by row, on what θ, ρ and π bring there: which lanes are then inverted follows from the six (`arriving`). The
+// rows differ in that, so one function for the five would need a table of what to exchange, and branch on it.
 fn row_0(a: &[u64; 25], d: &[u64; 5]) -> [u64; 5]
     requires fact_1 { d.now ≡ tab 5 (effect_d a.now) }
     requires fact_2 { Lanes a.now }
@@ -398,11 +389,9 @@ pub fn permute(lanes: [u64; 25]) -> [u64; 25]
 {
     let constants = round_constants();
     let mut a = exchanged(lanes);
-    let mut i = 0;
-    while i < 24 {
+    for i in 0..24 {
         let next = round(a, constants[i]);
         a = next;
-        i += 1;
     }
     exchanged(a)
 }

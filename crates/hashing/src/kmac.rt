@@ -20,7 +20,7 @@ fn left(hash: Sponge, x: usize) -> Sponge
     absorb(SHAKE256_RATE, hash, &[2, (x / 256) as u8, (x % 256) as u8])
 }
 
-// 2.3.1: right_encode.
+// 2.3.1: right_encode. (One function for both would have to be told the order: no line less.)
 fn right(hash: Sponge, x: usize) -> Sponge
     requires { (hash.place < 136) × (x < 65536) }
     ensures { Absorbs 136 hash (right_encode x) result }

@@ -37,28 +37,22 @@ pub fn at_once(k: usize, room: usize, left: usize) -> usize
     8
 }
 
-// Byte m from `at` on, in its place.
-fn byte_at(b: &[u8], at: usize, m: usize) -> u64
-    requires { (at + m < length b.now) × (m < 8) }
-    ensures { result ≡ get_or b.now (at + m) 0 * 2 ^ (8 * m) }
-{
-    byte_in(b[at + m], m)
-}
-
 // The eight bytes from `at` on, as a lane.
 pub fn eight_bytes(b: &[u8], at: usize) -> u64
     requires { at + 8 ≤ length b.now }
     ensures fact_1 { result ≡ lane_of 0 8 (λ m. get_or b.now (at + m) 0) }
     ensures fact_2 { ((e : ℕ) → e < 64 → bit_at result e ≡ bits 8 b.now (8 * at + e)) }
 {
-    byte_at(b, at, 0)
-        ^ byte_at(b, at, 1)
-        ^ byte_at(b, at, 2)
-        ^ byte_at(b, at, 3)
-        ^ byte_at(b, at, 4)
-        ^ byte_at(b, at, 5)
-        ^ byte_at(b, at, 6)
-        ^ byte_at(b, at, 7)
+    u64::from_le_bytes([
+        b[at],
+        b[at + 1],
+        b[at + 2],
+        b[at + 3],
+        b[at + 4],
+        b[at + 5],
+        b[at + 6],
+        b[at + 7],
+    ])
 }
 
 // The n bytes from i on, as they stand in a lane from its byte k on.
@@ -77,11 +71,7 @@ pub fn lay_eight(lane: u64, out: &mut [u8], i: usize)
     requires { i + 8 ≤ length out.old }
     ensures { out.new ≡ overwritten i (tab 8 (λ m. lane / 2 ^ (8 * m) % 256)) out.old }
 {
-    let mut m = 0;
-    while m < 8 {
-        out[i + m] = byte_of(lane, m);
-        m += 1;
-    }
+    out[i..i + 8].copy_from_slice(&lane.to_le_bytes());
 }
 
 // The n bytes of a lane from its byte k on, from place i on.

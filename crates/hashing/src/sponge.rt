@@ -40,6 +40,7 @@ pub fn absorb(rate: usize, hash: Sponge, bytes: &[u8]) -> Sponge
     let mut lanes = hash.lanes;
     let mut place = hash.place;
     let mut i = 0;
+    // A turn goes on by one byte or by eight, as the block's place has it: no `for` has such steps.
     while i < bytes.len() {
         let n = at_once(place % 8, rate - place, bytes.len() - i);
         lanes[place / 8] = lanes[place / 8] ^ part(bytes, i, n, place % 8);
@@ -77,6 +78,7 @@ pub fn squeeze(rate: usize, hash: Sponge, out: &mut [u8]) -> Sponge
     let mut lanes = hash.lanes;
     let mut place = hash.place;
     let mut i = 0;
+    // By one byte or by eight, as in `absorb`.
     while i < out.len() {
         if place == rate {
             lanes = permute(lanes);

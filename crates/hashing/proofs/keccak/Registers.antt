@@ -49,11 +49,6 @@ pub begins_first : Begins 0 1
 unfolding digits tab register
 begins_first = record { within = lit< tt; begins = refl }
 
-pub begins_next : (i : ℕ) {a b : ℕ} → Begins i a → Steps 7 a b → Begins (i + 1) b
-begins_next i now steps =
-    let later : 7 * (i + 1) ≡ 7 * i + 7 = omega arith in
-    record { within = steps.within; begins = rw later (steps.goes_on (7 * i) now.begins) }
-
 -- ---- the bits of a constant
 
 bit_of : (r t : ℕ) → t < 255 → digits r ≡ register t → r % 2 ≡ rc t

@@ -59,9 +59,3 @@ turn_fits t h =
     let one : t + 1 ≤ 24 = omega arith in
     let two : t + 2 ≤ 25 = omega arith in
     mul-le-mul one two
-
-pub goes_none : (place : ℕ) (w : Walk) → Stands place w → Goes 0 place w w
-goes_none place w now = record { later = omega arith; stands = now }
-
-pub goes_more : {m n place : ℕ} {a b c : Walk} → Goes m place a b → Goes n place b c → Goes (m + n) place a c
-goes_more p q = record { later = omega arith; stands = q.stands }

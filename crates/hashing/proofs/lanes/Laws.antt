@@ -4,25 +4,25 @@ use mathlib.Core.Bool.{Bool, true, false, xor}
 use mathlib.Core.List.{List, [], ◌∷◌, ◌++◌, append-nil, append_assoc}
 use mathlib.Core.Logic.{inl, inr}
 use Prim.Native.Nat.{ℕ, zero, suc, ◌+◌, ◌-◌, ◌*◌, ◌/◌, ◌%◌, ◌^◌, ◌≤◌, ◌<◌}
-use native.Mathlib.Nat.{le_refl, add-zero, add-suc, zero-add}
+use native.Mathlib.Nat.{le_refl, add-mul, mul-le-mul_right, add-zero, add-suc, zero-add}
 use native.Mathlib.Decide.{dec_lt}
 use native.Mathlib.Numerals.{add-one}
 use native.Mathlib.Omega.{arith}
 use lib.ListN.{length, get_or, set, take, drop, length-append, length-drop, take-append-drop}
+use lib.Pow.{pow-add}
+use lib.Dec.{lit<}
+use Rattle.std.specs.Int.Bits.{xor_shifted}
+use Rattle.std.proofs.lemmas.Nat.{xor_comm}
 use lib.Seq.{drop-cons, set_at, set_split, take-suc, length-take-le, append_snoc}
 use Rattle.hashing.specs.Lists.{tab, bit_at}
 use Rattle.hashing.specs.inner.Parts.{lane_of, AtOnce, overwritten}
-use Rattle.hashing.proofs.Lists.{length-tab, tab_ext, filled_more}
+use Rattle.hashing.proofs.Lists.{length-tab, filled_more}
 use Rattle.hashing.proofs.Words.{bit-xor, bit_zero, bit_shl, bit_shl_below, bit_above}
 
 -- as many as go at once end with the lane
 pub at_once_fits : (k n : ℕ) → k < 8 → AtOnce k n → (0 < n) × (k + n ≤ 8)
 at_once_fits k n within (inl one) = omega arith
 at_once_fits k n within (inr whole) = let start = whole.0 in let all = whole.1 in omega arith
-
-pub at_once_eight : (k n : ℕ) → AtOnce k n → n ≡ 8 → k ≡ 0
-at_once_eight k n (inl one) all = absurd (omega arith)
-at_once_eight k n (inr whole) all = whole.0
 
 pub at_once_one : (k n : ℕ) → AtOnce k n → (n ≡ 8 → ⊥) → n ≡ 1
 at_once_one k n (inl one) not-all = one
@@ -81,6 +81,42 @@ module _ (b : ℕ → ℕ) where
           (ap (bit_at (b n * 2 ^ (8 * (0 + n)))) at ∙ bit_shl (b n) (8 * (0 + n)) (e % 8))
           ∙ false_xor (bit_at (b n) (e % 8)) ∙ ap (λ (m : ℕ). bit_at (b m) (e % 8)) (sym last)
 
+  lane-none : lane_of 0 0 b ≡ 0
+  unfolding lane_of
+  lane-none = refl
+
+  -- they stand apart, so a byte more is added
+  lane-more : (n : ℕ) → lane_of 0 n b < 2 ^ (8 * n) → lane_of 0 (suc n) b ≡ b n * 2 ^ (8 * n) + lane_of 0 n b
+  unfolding lane_of
+  lane-more n below =
+      rw (zero-add n) (xor_comm (lane_of 0 n b) (b n * 2 ^ (8 * n)) ∙ xor_shifted (b n) (8 * n) (lane_of 0 n b) below)
+
+  lane-below : (n : ℕ) → ((m : ℕ) → m < n → b m < 2 ^ 8) → lane_of 0 n b < 2 ^ (8 * n)
+  lane-below zero small = rw lane-none (lit< tt)
+  lane-below (suc n) small =
+      let before = lane-below n (λ m h. small m (omega arith)) in
+      let whole : 2 ^ (8 * suc n) ≡ 2 ^ 8 * 2 ^ (8 * n) = ap (λ (k : ℕ). 2 ^ k) (omega arith) ∙ pow-add 2 8 (8 * n) in
+      rw (lane-more n before, whole)
+      (omega (arith, before, mul-le-mul_right (2 ^ (8 * n)) (small n (le_refl (suc n))), add-mul (b n) 1 (2 ^ (8 * n))))
+
+  pub lane-eight : ((m : ℕ) → m < 8 → b m < 2 ^ 8)
+      → lane_of 0 8 b ≡ b 0 + 256 * (b 1 + 256 * (b 2 + 256 * (b 3 + 256 * (b 4 + 256 * (b 5 + 256 * (b 6 + 256 * b 7))))))
+  lane-eight small =
+      let step : (n : ℕ) → n < 8 → lane_of 0 (suc n) b ≡ b n * 2 ^ (8 * n) + lane_of 0 n b = λ n h. lane-more n (lane-below n (λ m less. small m (omega arith))) in
+      let none : lane_of 0 0 b ≡ 0 = lane-none in
+      omega (
+        arith,
+        none,
+        step 0 (lit< tt),
+        step 1 (lit< tt),
+        step 2 (lit< tt),
+        step 3 (lit< tt),
+        step 4 (lit< tt),
+        step 5 (lit< tt),
+        step 6 (lit< tt),
+        step 7 (lit< tt),
+      )
+
 -- writing from place i on
 pub overwritten-none : (i : ℕ) (l : List ℕ) → overwritten i [] l ≡ l
 unfolding overwritten
@@ -100,14 +136,8 @@ overwritten_more i P l v room =
     (set_at (take i l ++ P) (get_or l (i + length P) 0) (drop (suc (i + length P)) l) v (i + length P) long
     ∙ sym (append_snoc (take i l ++ P) v (drop (suc (i + length P)) l)))
 
--- n bytes of a lane from its byte k on, for both counts that go at once
+-- n bytes of a lane from its byte k on, for the count of one
 module _ (lane k n i : ℕ) (out : List ℕ) where
-  pub laid_eight : k ≡ 0 → n ≡ 8
-      → overwritten i (tab 8 (λ m. lane / 2 ^ (8 * m) % 256)) out ≡ overwritten i (tab n (λ m. lane / 2 ^ (8 * (k + m)) % 256)) out
-  laid_eight start all =
-      ap (λ (xs : List ℕ). overwritten i xs out)
-      (rw all (tab_ext 8 (λ m. lane / 2 ^ (8 * m) % 256) (λ m. lane / 2 ^ (8 * (k + m)) % 256) (λ m h. rw (start, zero-add m))))
-
   pub laid_one : n ≡ 1 → i < length out
       → set out i (lane / 2 ^ (8 * k) % 256) ≡ overwritten i (tab n (λ m. lane / 2 ^ (8 * (k + m)) % 256)) out
   unfolding tab

@@ -27,6 +27,3 @@ returns c =
 
 pub loop-j-init : goal.loop-j-init
 loop-j-init c = (omega arith, omega arith, no_step _ c.requires, none_within _)
-
-pub stepped-register-requires : goal.stepped-register-requires
-stepped-register-requires c = c.loop-j.invariant.2.within

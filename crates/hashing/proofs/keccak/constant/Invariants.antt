@@ -7,6 +7,3 @@ use Rattle.hashing.proofs.keccak.constant.Given as goal
 abbrev pub invariant-loop-j : goal.invariant-loop-j
 invariant-loop-j l =
     (l.j ≤ 7) × (l.constant < 2 ^ (2 ^ l.j - 1)) × Steps l.j l.begins l.register × Within l.j l.begins l.constant
-
-abbrev pub decreases-loop-j : goal.decreases-loop-j
-decreases-loop-j l = 7 - l.j

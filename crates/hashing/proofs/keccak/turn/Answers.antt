@@ -12,9 +12,3 @@ returns c =
 
 pub loop-i-init : goal.loop-i-init
 loop-i-init c = (omega arith, refl, stands_first _)
-
-pub six_walked-walk-requires : goal.six_walked-walk-requires
-six_walked-walk-requires c = record { fact_1 = c.loop-i.invariant.2; fact_2 = omega arith }
-
-pub loop-i-preserved : goal.loop-i-preserved
-loop-i-preserved c = (omega arith, omega arith, c.six_walked-walk.ensures.stands)

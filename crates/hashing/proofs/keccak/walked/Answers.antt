@@ -1,8 +1,7 @@
 -- `hashing::keccak::walked`: the lane is met at this step, or not.
 use mathlib.Core.Path.{◌∙◌}
-use native.Mathlib.Omega.{arith}
 use Rattle.hashing.specs.Keccak.{walk, offset_within}
-use Rattle.hashing.proofs.keccak.Walking.{met, unmet, goes, turn_fits}
+use Rattle.hashing.proofs.keccak.Walking.{met, unmet, goes}
 use Rattle.hashing.proofs.keccak.walked.Goals as goal
 
 pub returns-then-y-x : goal.returns-then-y-x
@@ -16,6 +15,3 @@ unfolding walk offset_within
 returns c =
     let now = c.requires.fact_1 in
     goes _ _ now (rw (now.x, now.y)) (now.turned ∙ rw (unmet _ _ now c.if-y-x.false, offset_within))
-
-pub overflow_mul-result : goal.overflow_mul-result
-overflow_mul-result c = record { fits = omega (arith, turn_fits c.args.walk.t c.requires.fact_2) }

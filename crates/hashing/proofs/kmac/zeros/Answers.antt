@@ -2,12 +2,8 @@
 use mathlib.Core.Path.{◌≡◌}
 use Prim.Native.Nat.{◌+◌, ◌-◌, ◌%◌}
 use native.Mathlib.Omega.{arith}
-use Rattle.hashing.proofs.kmac.Laws.{none, rest_zeros}
+use Rattle.hashing.proofs.kmac.Laws.{rest_zeros}
 use Rattle.hashing.proofs.kmac.zeros.Goals as goal
-
-pub returns-then-place-eq0 : goal.returns-then-place-eq0
-returns-then-place-eq0 c =
-    let full : (136 - c.args.hash.place) % 136 ≡ 0 = omega arith in rw full (none _ c.requires)
 
 pub returns : goal.returns
 returns c =

@@ -1,35 +1,22 @@
--- `lay_eight`: before turn m the first m bytes are written.
-use mathlib.Core.Path.{◌≡◌, sym, ap₂, ◌∙◌}
-use mathlib.Core.List.{List}
-use Prim.Native.Nat.{ℕ, ◌+◌}
-use native.Mathlib.Numerals.{add-one}
+-- `lay_eight` copies the bytes of the lane.
+use mathlib.Core.Path.{◌≡◌, refl, sym, ap, ◌∙◌}
+use mathlib.Core.List.{List, ◌++◌, append_assoc}
+use Prim.Native.Nat.{ℕ, ◌+◌, ◌-◌, ◌*◌, ◌/◌, ◌%◌, ◌^◌}
+use native.Mathlib.Nat.{div-one}
 use native.Mathlib.Omega.{arith}
-use lib.ListN.{set, length-set}
+use lib.ListN.{take, drop}
+use lib.Seq.{drop-drop}
 use Rattle.hashing.specs.Lists.{tab}
-use Rattle.hashing.proofs.Lists.{length-tab}
-use Rattle.hashing.proofs.lanes.Laws.{overwritten-none, overwritten_more}
+use Rattle.hashing.specs.inner.Parts.{overwritten}
 use Rattle.hashing.proofs.lanes.lay_eight.Goals as goal
-use Rattle.hashing.proofs.lanes.lay_eight.Invariants.{byte}
-
-pub loop-m-init : goal.loop-m-init
-unfolding tab
-loop-m-init c = (omega arith, omega arith, sym (overwritten-none c.args.i c.args.out.now))
-
-pub loop-m-preserved : goal.loop-m-preserved
-unfolding tab
-loop-m-preserved c =
-    let was = c.loop-m in
-    let given = c.args in
-    let done = tab was.m (byte given.lane) in
-    let long = length-tab was.m (byte given.lane) in (
-      omega arith,
-      length-set was.out (given.i + was.m) c.byte_of.result ∙ was.invariant.1,
-      ap₂ (λ (out : List ℕ) (v : ℕ). set out (given.i + was.m) v) was.invariant.2 c.byte_of.ensures
-          ∙ rw (add-one was.m) (rw long at (overwritten_more given.i done given.out.now (byte given.lane was.m) (omega arith))),
-    )
 
 pub returns : goal.returns
-returns c = let all : c.loop-m.m ≡ 8 = omega arith in rw all at c.loop-m.invariant.2
-
-pub shape_of-out : goal.shape_of-out
-shape_of-out c = c.loop-m.invariant.1
+unfolding overwritten tab
+returns c =
+    let i : ℕ = c.args.i in
+    let out = c.args.out.now in
+    let bytes : List ℕ = tab 8 (λ m. c.args.lane / 2 ^ (8 * m) % 256) in
+    let same : bytes ≡ c.to_le_bytes.result = rw (c.to_le_bytes.ensures, div-one c.args.lane) refl in
+    let eight : i + 8 - i ≡ 8 = omega arith in
+    rw (c.copy_from_slice.ensures.after, eight, ← same)
+    (ap (λ (rest : List ℕ). take i out ++ (bytes ++ rest)) (drop-drop 8 i out) ∙ sym (append_assoc (take i out) bytes (drop (i + 8) out)))

@@ -1,20 +1,15 @@
 -- `absorb` goes on with the running hash: before a turn it is that of the message with the first i bytes.
 use mathlib.Core.Path.{◌≡◌}
-use mathlib.Core.List.{List, ◌++◌, append-nil, append_assoc}
-use Prim.Native.Nat.{ℕ, ◌+◌, ◌%◌, ◌≤◌, ◌<◌}
+use mathlib.Core.List.{List, ◌++◌, append_assoc}
+use Prim.Native.Nat.{ℕ, ◌+◌, ◌%◌, ◌<◌}
 use native.Mathlib.Omega.{arith}
-use lib.ListN.{length, take, get_or}
-use lib.Seq.{take_all}
+use lib.ListN.{take, get_or}
 use Rattle.hashing.specs.Lists.{tab}
 use Rattle.hashing.specs.inner.Running.{running}
 use Rattle.hashing.proofs.lanes.Laws.{at_once_fits, taken_more}
 use Rattle.hashing.proofs.sponge.Absorbing.{held, part_within, part_full}
 use Rattle.hashing.proofs.sponge.absorb.Goals as goal
 use Rattle.hashing.proofs.sponge.absorb.Goals.{After-at_once-n, Joined-place-rate, then-place-rate, else-place-rate}
-
--- the turn's bytes end with their lane
-fits : (c : After-at_once-n) → (0 < c.at_once-n.result) × (c.loop-i.place % 8 + c.at_once-n.result ≤ 8)
-fits c = at_once_fits (c.loop-i.place % 8) c.at_once-n.result (omega arith) c.at_once-n.ensures.0
 
 -- after the `if` the hash has the turn's bytes more
 joined : (c : Joined-place-rate) →
@@ -49,19 +44,3 @@ loop-i-preserved c =
           rw (← taken_more bytes c.loop-i.i n (omega arith), ← append_assoc)
           ((joined (goal.at.loop-i-preserved c).Joined-place-rate).1 (M ++ take c.loop-i.i bytes) (c.loop-i.invariant.2 M e)),
     )
-
-pub returns : goal.returns
-returns c =
-    let was = c.loop-i in
-    let bytes = c.args.bytes.now in
-    let all : length bytes ≤ was.i = omega arith in
-    record { within = omega arith; goes_on = λ M e. rw (take_all was.i bytes all) at (was.invariant.2 M e) }
-
-pub loop-i-init : goal.loop-i-init
-loop-i-init c = (omega arith, omega arith, λ M e. rw append-nil e)
-
-pub part-requires : goal.part-requires
-part-requires c = (omega arith, c.at_once-n.ensures.0, omega arith)
-
-pub loop-i-smaller : goal.loop-i-smaller
-loop-i-smaller c = omega (arith, fits (goal.at.loop-i-smaller c).After-at_once-n)

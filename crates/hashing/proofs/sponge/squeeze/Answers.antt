@@ -74,24 +74,3 @@ returns c =
 
 pub loop-i-init : goal.loop-i-init
 loop-i-init c = (omega arith, refl, omega arith, λ suffix M n e. (filled_none _ _, rw add-zero e))
-
-pub overflow_sub-rate : goal.overflow_sub-rate
-overflow_sub-rate c = let below = (joined (goal.at.overflow_sub-rate c).Joined-place-rate).0 in omega arith
-
-pub at_once-n-requires : goal.at_once-n-requires
-at_once-n-requires c = let below = (joined (goal.at.at_once-n-requires c).Joined-place-rate).0 in omega arith
-
-pub offset_bounds-lanes-place : goal.offset_bounds-lanes-place
-offset_bounds-lanes-place c = let below = (joined (goal.at.offset_bounds-lanes-place c).Joined-place-rate).0 in omega arith
-
-pub bounds-lanes-place : goal.bounds-lanes-place
-bounds-lanes-place c = let below = (joined (goal.at.bounds-lanes-place c).Joined-place-rate).0 in omega arith
-
-pub lay-requires : goal.lay-requires
-lay-requires c = (omega arith, c.at_once-n.ensures.0, omega arith)
-
-pub overflow_add-place : goal.overflow_add-place
-overflow_add-place c = let below = (joined (goal.at.overflow_add-place c).Joined-place-rate).0 in omega arith
-
-pub loop-i-smaller : goal.loop-i-smaller
-loop-i-smaller c = omega (arith, fits (goal.at.loop-i-smaller c).After-at_once-n, c.lay.auto.out)
