@@ -6,12 +6,6 @@ ghost use Rattle.ring.specs.inner.Sizes.{words, word_bits};
 
 use crate::size::WORDS;
 
-pub fn zeros() -> [u64; WORDS]
-    ensures { result ≡ replicate words 0 }
-{
-    [0u64; WORDS]
-}
-
 // The loops over words go to the end of the word of r.
 pub fn cut(r: usize, x: [u64; WORDS]) -> [u64; WORDS]
     requires fact_1 { r < word_bits }
@@ -30,10 +24,8 @@ pub fn is_zero(x: &[u64]) -> bool
     ensures { Tells result (bits 64 x.now ≡ (λ k. false)) }
 {
     let mut rest = 0;
-    let mut i = 0;
-    while i < x.len() {
-        rest = rest | x[i];
-        i += 1;
+    for word in x {
+        rest |= *word;
     }
     rest == 0
 }

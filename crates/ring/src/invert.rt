@@ -1,5 +1,5 @@
 // The inverse of a as a^(2^(r-1) - 2), by a chain of products, and one product more where it is to be seen whether it is one.
-ghost use Rattle.std.specs.Prelude.{◌≡◌, true, ℕ, ◌+◌, ◌-◌, ◌%◌, ◌^◌, ◌≤◌, ◌<◌, eqb};
+ghost use Rattle.std.specs.Prelude.{◌≡◌, true, ℕ, ◌+◌, ◌-◌, ◌%◌, ◌^◌, ◌≤◌, ◌<◌, eqb, is_some, IfSome};
 ghost use Rattle.hashing.specs.Lists.{bits};
 ghost use Rattle.ring.specs.Polynomials.{InRing, Tells, one, mul, spread, has_inverse, inverse_of};
 ghost use Rattle.ring.specs.Chain;
@@ -80,9 +80,7 @@ fn power(r: usize, a: [u64; WORDS], ones: usize) -> Product
     let mut x = a;
     let mut ones_x = ones;
     let mut count = 0;
-    let mut n = top(u);
-    while 0 < n {
-        n -= 1;
+    for n in (0..top(u)).rev() {
         let next = climb(r, a, ones, x, ones_x, u >> (n + 1), (u >> n) % 2, count);
         x = next.value;
         count = next.count;
@@ -105,8 +103,7 @@ fn is_one(x: [u64; WORDS]) -> bool
 // The inverse, if there is one, and how many products its chain took.
 #[derive(Drop)]
 pub struct Inverse {
-    pub exists: bool,
-    pub value: [u64; WORDS],
+    pub value: Option<[u64; WORDS]>,
     pub products: u32,
 }
 
@@ -115,15 +112,14 @@ pub fn invert(r: usize, a: [u64; WORDS], ones: usize) -> Inverse
     requires fact_1 { (r % 2 ≡ 1) × (64 ≤ r) × (r < word_bits) × (2 ^ (r - 1) % r ≡ 1) }
     requires fact_2 { InRing r (bits 64 a) }
     requires fact_3 { Ones r (bits 64 a) ones }
-    ensures fact_1 { result.exists ≡ has_inverse r (bits 64 a) }
-    ensures fact_2 { (result.exists ≡ true → bits 64 result.value ≡ inverse_of r (bits 64 a)) }
+    ensures fact_1 { is_some result.value ≡ has_inverse r (bits 64 a) }
+    ensures fact_2 { IfSome result.value (λ value. bits 64 value ≡ inverse_of r (bits 64 a)) }
     ensures fact_3 { result.products ≡ chain_products r (bits 64 a) }
 {
     let made = power(r, a, ones);
     let value = made.value;
     Inverse {
-        exists: is_one(times(r, value, a, ones)),
-        value,
+        value: is_one(times(r, value, a, ones)).then_some(value),
         products: made.count,
     }
 }

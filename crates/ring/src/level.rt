@@ -16,6 +16,8 @@ pub struct Level {
     pub least: usize,
 }
 
+// A level stays a number here and above: entries, records and C bring any, and the functions that docs/PROMISES.md names
+// answer for any, so an enum of levels would be taken apart again at each of them.
 pub fn known(level: u32) -> bool
     ensures { result ≡ Levels.known level }
 {

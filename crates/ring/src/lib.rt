@@ -16,46 +16,48 @@ pub mod times;
 pub mod unpack;
 pub mod words;
 
-ghost use Rattle.std.specs.Prelude.{◌≡◌, length};
+ghost use Rattle.std.specs.Prelude.{◌≡◌, Err, length, replicate};
 ghost use Rattle.hashing.specs.Answers.{first_of};
+ghost use Rattle.hashing.specs.Refusals.{answer};
 ghost use Rattle.ring.specs.Promises.{product_reasons, ProductPromise, inverse_reasons, InversePromise, ProductsPromise};
 
 use crate::layout::pad_set;
-use hashing::refuse;
+use hashing::Refusal;
+use hashing::fill::zero;
 pub use size::WORDS;
 
-fn judge_product(level: u32, a: &[u8], b: &[u8], room: usize) -> u32
-    ensures { result ≡ first_of (product_reasons level a.now b.now room) }
+fn judge_product(level: u32, a: &[u8], b: &[u8], room: usize) -> Result<(), Refusal>
+    ensures { answer result ≡ first_of (product_reasons level a.now b.now room) }
 {
     if !level::known(level) {
-        return 1;
+        return Err(Refusal::UnknownLevel);
     }
     let n = size::polynomial(level);
     if (a.len() != n) | (b.len() != n) | (room != n) {
-        return 2;
+        return Err(Refusal::WrongLength);
     }
     let r = size::block(level);
     if pad_set(r, a) | pad_set(r, b) {
-        return 3;
+        return Err(Refusal::PadBit);
     }
-    0
+    Ok(())
 }
 
-pub fn product(level: u32, a: &[u8], b: &[u8], out: &mut [u8]) -> u32
-    ensures { ProductPromise level a.now b.now (length out.old) result out.new }
+pub fn product(level: u32, a: &[u8], b: &[u8], out: &mut [u8]) -> Result<(), Refusal>
+    ensures { ProductPromise level a.now b.now (length out.old) (answer result) out.new }
 {
-    let answer = judge_product(level, a, b, out.len());
-    if answer != 0 {
-        return refuse::one(answer, out);
+    if let Err(refusal) = judge_product(level, a, b, out.len()) {
+        zero(out);
+        return Err(refusal);
     }
     let r = size::block(level);
     words::store(multiply::multiply(r, words::load(a), words::load(b)), out);
-    0
+    Ok(())
 }
 
 // The column of a product of a by itself: the same lengths and the same pads.
-fn judge_inverse(level: u32, a: &[u8], room: usize) -> u32
-    ensures { result ≡ first_of (inverse_reasons level a.now room) }
+fn judge_inverse(level: u32, a: &[u8], room: usize) -> Result<(), Refusal>
+    ensures { answer result ≡ first_of (inverse_reasons level a.now room) }
 {
     judge_product(level, a, a, room)
 }
@@ -63,35 +65,37 @@ fn judge_inverse(level: u32, a: &[u8], room: usize) -> u32
 // What `inverse` answers, and how many products of the chain it took.
 #[derive(Drop)]
 pub struct Inverted {
-    pub answer: u32,
+    pub answer: Result<(), Refusal>,
     pub products: u32,
 }
 
+// A refusal of `inverse`, after so many products.
+fn refused(refusal: Refusal, products: u32, out: &mut [u8]) -> Inverted
+    ensures { (result.answer ≡ Err refusal) × (result.products ≡ products) × (out.new ≡ replicate (length out.old) 0) }
+{
+    zero(out);
+    Inverted {
+        answer: Err(refusal),
+        products,
+    }
+}
+
 pub fn inverse(level: u32, a: &[u8], out: &mut [u8]) -> Inverted
-    ensures inverse_promise { InversePromise level a.now (length out.old) result.answer out.new }
+    ensures inverse_promise { InversePromise level a.now (length out.old) (answer result.answer) out.new }
     ensures products_promise { ProductsPromise level a.now (length out.old) result.products }
 {
-    let answer = judge_inverse(level, a, out.len());
-    if answer != 0 {
-        return Inverted {
-            answer: refuse::one(answer, out),
-            products: 0,
-        };
+    if let Err(refusal) = judge_inverse(level, a, out.len()) {
+        return refused(refusal, 0, out);
     }
     let r = size::block(level);
     let x = words::load(a);
     let found = invert::invert(r, x, words::weight(x, r / 64 + 1));
-    if !found.exists {
-        return Inverted {
-            answer: refuse::one(5, out),
-            products: found.products,
-        };
-    }
-    let value = found.value;
-    let products = found.products;
+    let Some(value) = found.value else {
+        return refused(Refusal::NoInverse, found.products, out);
+    };
     words::store(value, out);
     Inverted {
-        answer: 0,
-        products,
+        answer: Ok(()),
+        products: found.products,
     }
 }

@@ -6,14 +6,12 @@ pub fn two(bytes: &[u8], at: usize) -> u32
     requires { at + 2 ≤ length bytes.now }
     ensures { result ≡ little_endian (take 2 (drop at bytes.now)) }
 {
-    let low = bytes[at] as u32;
-    let high = bytes[at + 1] as u32;
-    low + 256 * high
+    u16::from_le_bytes([bytes[at], bytes[at + 1]]) as u32
 }
 
 pub fn four(bytes: &[u8], at: usize) -> u32
     requires { at + 4 ≤ length bytes.now }
     ensures { result ≡ little_endian (take 4 (drop at bytes.now)) }
 {
-    two(bytes, at) + 65536 * two(bytes, at + 2)
+    u32::from_le_bytes([bytes[at], bytes[at + 1], bytes[at + 2], bytes[at + 3]])
 }

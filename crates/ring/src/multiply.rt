@@ -9,9 +9,10 @@ ghost use Rattle.ring.specs.Polynomials.{Poly, InRing, flip, parity, mul};
 ghost use Rattle.ring.specs.inner.Wide.{shifted, wide, Away, Outside, Clear, Multiples, Leaf, start};
 ghost use Rattle.ring.specs.inner.Sizes.{words, word_bits, leaf_words, row_words, table_words, first_row, half_words, factor_words, wide_words};
 
-use crate::frame::{cut, zeros};
+use crate::frame::cut;
 use crate::size::WORDS;
-use crate::words::{funnel, place};
+use crate::words::{funnel, padded, place};
+use hashing::fill::filled;
 
 // The words of a leaf, seven for each pass of the comb, and of its product.
 const LEAF: usize = 49;
@@ -53,20 +54,11 @@ fn fill_two(t: &mut [u64], v: usize, n: usize)
 {
     let from = ROW * v + 6;
     let to = ROW * (2 * v) + 6;
-    let mut i = 0;
-    while i <= n {
+    for i in 0..n + 1 {
         let x = funnel(t[from + i - 1], t[from + i], 1);
         t[to + i] = x;
         t[to + ROW + i] = x ^ t[FIRST + i];
-        i += 1;
     }
-}
-
-// An empty table.
-fn blank() -> [u64; TABLE]
-    ensures { result ≡ replicate table_words 0 }
-{
-    [0u64; TABLE]
 }
 
 // The table of the multiples of b, a leaf of n words.
@@ -76,10 +68,8 @@ fn multiples(t: &mut [u64], b: &[u64], n: usize)
 {
     place(t, b, FIRST);
     t[FIRST + n] = 0;
-    let mut v = 1;
-    while v < 16 {
+    for v in 1..16 {
         fill_two(t, v, n);
-        v += 1;
     }
 }
 
@@ -89,11 +79,9 @@ fn offsets(a: &[u64], j: usize, w: u64) -> [usize; 7]
     ensures { result ≡ tab 7 (start a.now w j) }
 {
     let mut o = [0usize; 7];
-    let mut m = 0;
-    while m < 7 {
+    for m in 0..7 {
         let u = (a[j + m] >> w) % 32;
         o[m] = ROW * u as usize + (6 - m);
-        m += 1;
     }
     o
 }
@@ -127,10 +115,8 @@ fn add_rows(x: &mut [u64], j: usize, t: &[u64], o: [usize; 7], len: usize)
     ensures by_index { (k : ℕ) → k < 64 * len → bits 64 x.new (64 * j + k)
         ≡ flip (bits 64 x.old (64 * j + k)) (parity 7 (λ m. bits 64 t.now (64 * get_or o m 0 + k))) }
 {
-    let mut i = 0;
-    while i < len {
+    for i in 0..len {
         x[j + i] = x[j + i] ^ seven(t, o, i);
-        i += 1;
     }
 }
 
@@ -141,10 +127,9 @@ fn add_window(x: &mut [u64], a: &[u64], t: &[u64], w: u64, n: usize)
         → bits 64 x.new k ≡ flip (bits 64 x.old k) (parity n
         (λ j. shifted (64 * j) (wide 5 (λ e. bit_at (get_or a.now j 0) (w + e)) b) k)) }
 {
-    let mut j = 0;
-    while j < n {
+    for pass in 0..n / 7 {
+        let j = 7 * pass;
         add_rows(x, j, t, offsets(a, j, w), n + 7);
-        j += 7;
     }
 }
 
@@ -154,28 +139,24 @@ fn shift_up(x: &mut [u64], len: usize)
     ensures { (k : ℕ) → k < 64 * len → bits 64 x.new k ≡ shifted 5 (bits 64 x.old) k }
 {
     let mut low = 0;
-    let mut i = 0;
-    while i < len {
+    for i in 0..len {
         let high = x[i];
         x[i] = funnel(low, high, 5);
         low = high;
-        i += 1;
     }
 }
 
-// The product of a, a leaf of n words, and of the one that the table is of. The highest window has 4 bits only: 65 is
-// the next multiple of 5 after 64.
+// The product of a, a leaf of n words, and of the one that the table is of. The highest of the 13 windows has 4 bits
+// only: 65 is the next multiple of 5 after 64.
 fn comb(a: &[u64], t: &[u64], n: usize) -> [u64; LEAF_WIDE]
     requires { (n ≤ leaf_words) × (n % 7 ≡ 0) × (length a.now ≡ n) × (length t.now ≡ table_words) }
     ensures { (b : Poly) → Multiples b 32 t.now → InRing (64 * n) b → (k : ℕ) → k < 128 * n
         → bits 64 result k ≡ wide (64 * n) (bits 64 a.now) b k }
 {
     let mut x = [0u64; LEAF_WIDE];
-    let mut w = 65;
-    while 0 < w {
-        w -= 5;
+    for window in (0..13).rev() {
         shift_up(&mut x, 2 * n);
-        add_window(&mut x, a, t, w, n);
+        add_window(&mut x, a, t, 5 * window, n);
     }
     x
 }
@@ -207,10 +188,8 @@ fn add(c: &mut [u64], at: usize, m: &[u64])
     requires { at + length m.now ≤ length c.old }
     ensures { bits 64 c.new ≡ Polynomials.add (bits 64 c.old) (shifted (64 * at) (bits 64 m.now)) }
 {
-    let mut i = 0;
-    while i < m.len() {
+    for i in 0..m.len() {
         c[at + i] = c[at + i] ^ m[i];
-        i += 1;
     }
 }
 
@@ -238,13 +217,6 @@ fn outer(a: &[u64], b: &[u64], c: &mut [u64], t: &mut [u64], h: usize, depth: us
     karatsuba(&a[h..], &b[h..], &mut c[m..], t, depth, n);
 }
 
-// 0, with room for half of a factor.
-fn half_zeros() -> [u64; HALF]
-    ensures { result ≡ replicate half_words 0 }
-{
-    [0u64; HALF]
-}
-
 // The product of the sums of the halves, in the front of m.
 #[cycle(karatsuba_middle_outer)]
 fn middle(a: &[u64], b: &[u64], m: &mut [u64], t: &mut [u64], h: usize, depth: usize, n: usize)
@@ -254,9 +226,9 @@ fn middle(a: &[u64], b: &[u64], m: &mut [u64], t: &mut [u64], h: usize, depth: u
         ≡ wide (64 * h) (Polynomials.add (bits 64 (take h a.now)) (bits 64 (drop h a.now)))
         (Polynomials.add (bits 64 (take h b.now)) (bits 64 (drop h b.now)))) }
 {
-    let mut x = half_zeros();
+    let mut x: [u64; HALF] = filled(0);
     add_halves(&mut x, a, h);
-    let mut y = half_zeros();
+    let mut y: [u64; HALF] = filled(0);
     add_halves(&mut y, b, h);
     let twice = 2 * h;
     karatsuba(&x[..h], &y[..h], &mut m[..twice], t, depth, n);
@@ -274,13 +246,6 @@ fn join(c: &mut [u64], m: &mut [u64], h: usize)
     add(c, h, &m[..n]);
 }
 
-// 0, with room for a factor.
-fn factor_zeros() -> [u64; FACTOR]
-    ensures { result ≡ replicate factor_words 0 }
-{
-    [0u64; FACTOR]
-}
-
 // The product of two factors of n·2^depth words, n those of a leaf.
 #[cycle(karatsuba_middle_outer)]
 fn karatsuba(a: &[u64], b: &[u64], c: &mut [u64], t: &mut [u64], depth: usize, n: usize)
@@ -295,25 +260,9 @@ fn karatsuba(a: &[u64], b: &[u64], c: &mut [u64], t: &mut [u64], depth: usize, n
     }
     let h = a.len() / 2;
     outer(a, b, c, t, h, depth - 1, n);
-    let mut m = factor_zeros();
+    let mut m: [u64; FACTOR] = filled(0);
     middle(a, b, &mut m, t, h, depth - 1, n);
     join(c, &mut m, h);
-}
-
-// 0, with room for a product before it is reduced.
-pub fn wide_zeros() -> [u64; WIDE]
-    ensures { result ≡ replicate wide_words 0 }
-{
-    [0u64; WIDE]
-}
-
-// a, with words of 0 up to the longest factor.
-pub fn padded(a: [u64; WORDS]) -> [u64; FACTOR]
-    ensures { bits 64 result ≡ bits 64 a }
-{
-    let mut p = factor_zeros();
-    place(&mut p, &a, 0);
-    p
 }
 
 // How a factor is halved down to leaves: a leaf's words, how often, and the words of all.
@@ -357,10 +306,10 @@ fn wide_product(a: [u64; WORDS], b: [u64; WORDS], n: usize) -> [u64; WIDE]
 {
     let split = split_of(n);
     let long = split.words;
-    let pa = padded(a);
-    let pb = padded(b);
-    let mut c = wide_zeros();
-    let mut t = blank();
+    let pa: [u64; FACTOR] = padded(&a);
+    let pb: [u64; FACTOR] = padded(&b);
+    let mut c: [u64; WIDE] = filled(0);
+    let mut t: [u64; TABLE] = filled(0);
     karatsuba(
         &pa[..long],
         &pb[..long],
@@ -379,11 +328,9 @@ pub fn reduce(x: [u64; WIDE], r: usize) -> [u64; WORDS]
 {
     let q = r / 64;
     let s = (r % 64) as u64;
-    let mut y = zeros();
-    let mut i = 0;
-    while i <= q {
+    let mut y: [u64; WORDS] = filled(0);
+    for i in 0..q + 1 {
         y[i] = x[i] ^ funnel(x[i + q], x[i + q + 1], 64 - s);
-        i += 1;
     }
     cut(r, y)
 }

@@ -32,8 +32,7 @@ pub fn rising(r: usize, x: [u64; WORDS], count: usize) -> [u16; LISTED]
     let mut left = x;
     let mut i = 0;
     let mut n = 0;
-    let mut turn = 0;
-    while turn < r / 64 + count {
+    for turn in 0..r / 64 + count {
         let w = left[i];
         let zeros = u64::trailing_zeros(w);
         let none = (zeros / 64) as usize;
@@ -41,7 +40,6 @@ pub fn rising(r: usize, x: [u64; WORDS], count: usize) -> [u16; LISTED]
         left[i] = without_lowest(w, zeros as u64);
         i += none;
         n += 1 - none;
-        turn += 1;
     }
     out
 }

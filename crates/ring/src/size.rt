@@ -20,25 +20,23 @@ pub const SEED: usize = 64;
 // What follows the positions of a private key: sigma, and the digest of the public key.
 pub const TAIL: usize = MESSAGE + 32;
 
+// A field of the row each: one function over them would be no shorter at a call.
 pub fn block(level: u32) -> usize
     ensures { result ≡ (level_of level).r }
 {
-    let l = level_of(level);
-    l.r
+    level_of(level).r
 }
 
 pub fn key_weight(level: u32) -> usize
     ensures { result ≡ (level_of level).d }
 {
-    let l = level_of(level);
-    l.d
+    level_of(level).d
 }
 
 pub fn error_weight(level: u32) -> usize
     ensures { result ≡ (level_of level).t }
 {
-    let l = level_of(level);
-    l.t
+    level_of(level).t
 }
 
 pub fn polynomial(level: u32) -> usize

@@ -8,8 +8,10 @@ ghost use Rattle.ring.specs.inner.Sizes.{words, word_bits, most_t, most_starts, 
 ghost use Rattle.ring.specs.inner.Upper.{upper};
 ghost use Rattle.ring.specs.inner.Windows.{Start, window, UpperStart};
 
-use crate::frame::{cut, zeros};
+use crate::frame::cut;
 use crate::size::{MOST_T, WORDS};
+use crate::words::padded;
+use hashing::fill::filled;
 
 // Where the empty window starts, and room for all: a polynomial twice, and one word more than a polynomial has.
 const EMPTY: usize = 64 * 2 * WORDS;
@@ -27,26 +29,6 @@ pub fn join(low: u64, high: u64, s: usize) -> u64
     (low >> s) | ((high << 1) << (63 - s))
 }
 
-fn blank() -> [u64; WINDOWED]
-    ensures { bits 64 result ≡ (λ k. false) }
-{
-    [0u64; WINDOWED]
-}
-
-// The n words of x.
-fn copied(x: [u64; WORDS], n: usize) -> [u64; WINDOWED]
-    requires { (n ≤ words) × InRing (64 * n) (bits 64 x) }
-    ensures { bits 64 result ≡ bits 64 x }
-{
-    let mut d = blank();
-    let mut i = 0;
-    while i < n {
-        d[i] = x[i];
-        i += 1;
-    }
-    d
-}
-
 // Each word after that of r is what stands r places before it, as far as the second copy goes.
 fn extend(d: &mut [u64], r: usize)
     requires { (64 ≤ r) × (r < word_bits) × (length d.old ≡ window_words) }
@@ -54,11 +36,9 @@ fn extend(d: &mut [u64], r: usize)
         → (k : ℕ) → k < 64 * (2 * (r / 64) + 2) → bits 64 d.new k ≡ a (k % r)) }
     ensures fact_2 { ((k : ℕ) → empty_window ≤ k → bits 64 d.new k ≡ bits 64 d.old k) }
 {
-    let mut j = r / 64 + 1;
-    while j < 2 * (r / 64) + 2 {
+    for j in r / 64 + 1..2 * (r / 64) + 2 {
         let from = 64 * j - r;
         d[j] = join(d[from / 64], d[from / 64 + 1], from % 64);
-        j += 1;
     }
 }
 
@@ -68,7 +48,7 @@ fn twice(r: usize, x: [u64; WORDS]) -> [u64; WINDOWED]
     ensures fact_1 { ((k : ℕ) → k < r + r → bits 64 result k ≡ bits 64 x (k % r)) }
     ensures fact_2 { InRing empty_window (bits 64 result) }
 {
-    let mut d = copied(x, r / 64 + 1);
+    let mut d: [u64; WINDOWED] = padded(&x[..r / 64 + 1]);
     d[r / 64] = d[r / 64] ^ (d[0] << (r % 64));
     extend(&mut d, r);
     d
@@ -105,10 +85,8 @@ fn add_windows(y: &mut [u64], d: &[u64], from: [usize; 8], n: usize)
         ≡ flip (bits 64 y.old k) (parity 8 (λ m. bits 64 d.now (get_or from m 0 + k)))) }
     ensures fact_2 { ((k : ℕ) → 64 * n ≤ k → bits 64 y.new k ≡ bits 64 y.old k) }
 {
-    let mut i = 0;
-    while i < n {
+    for i in 0..n {
         y[i] = y[i] ^ eight(d, from, i);
-        i += 1;
     }
 }
 
@@ -118,10 +96,8 @@ fn next_eight(from: &[usize], j: usize) -> [usize; 8]
     ensures { result ≡ tab 8 (λ m. get_or from.now (j + m) 0) }
 {
     let mut o = [0usize; 8];
-    let mut m = 0;
-    while m < 8 {
+    for m in 0..8 {
         o[m] = from[j + m];
-        m += 1;
     }
     o
 }
@@ -135,33 +111,23 @@ fn windows(r: usize, x: [u64; WORDS], from: &[usize], count: usize) -> [u64; WOR
     ensures fact_2 { ((k : ℕ) → k < r → bits 64 result k ≡ parity count (λ i. window r (bits 64 x) (get_or from.now i 0) k)) }
 {
     let d = twice(r, x);
-    let mut y = zeros();
-    let mut i = 0;
-    while i < count {
-        add_windows(&mut y, &d, next_eight(from, i), r / 64 + 1);
-        i += 8;
+    let mut y: [u64; WORDS] = filled(0);
+    for pass in 0..(count + 7) / 8 {
+        add_windows(&mut y, &d, next_eight(from, 8 * pass), r / 64 + 1);
     }
     cut(r, y)
 }
 
-fn no_starts() -> [usize; STARTS]
-    ensures { result ≡ replicate most_starts empty_window }
+// Where the windows start: those at places below `count` as the rule has it.
+fn starts<F: Fn(usize) -> usize>(count: usize, rule: F) -> [usize; STARTS]
+    requires fact_1 { count ≤ most_t }
+    requires fact_2 { (i : ℕ) → i < count → F.pre rule i }
+    ensures fact_1 { (i : ℕ) → i < count → F.post rule i (get_or result i 0) }
+    ensures fact_2 { (i : ℕ) → count ≤ i → i < most_starts → get_or result i 0 ≡ empty_window }
 {
-    [EMPTY; STARTS]
-}
-
-// Where the windows of the positions start.
-fn starts(r: usize, positions: &[u16], count: usize) -> [usize; STARTS]
-    requires fact_1 { (r < word_bits) × (count ≤ length positions.now) × (count ≤ most_t) }
-    requires fact_2 { ((i : ℕ) → i < count → get_or positions.now i 0 < r) }
-    ensures fact_1 { ((i : ℕ) → i < count → get_or result i 0 ≡ r - get_or positions.now i 0) }
-    ensures fact_2 { ((i : ℕ) → count ≤ i → i < most_starts → get_or result i 0 ≡ empty_window) }
-{
-    let mut from = no_starts();
-    let mut i = 0;
-    while i < count {
-        from[i] = r - positions[i] as usize;
-        i += 1;
+    let mut from: [usize; STARTS] = filled(EMPTY);
+    for i in 0..count {
+        from[i] = rule(i);
     }
     from
 }
@@ -172,7 +138,7 @@ pub fn sparse(r: usize, positions: &[u16], count: usize, x: [u64; WORDS]) -> [u6
     requires fact_3 { ((i : ℕ) → i < count → get_or positions.now i 0 < r) }
     ensures { bits 64 result ≡ mul r (terms r (take count positions.now)) (bits 64 x) }
 {
-    let from = starts(r, positions, count);
+    let from = starts(count, |i| r - positions[i] as usize);
     windows(r, x, &from, count)
 }
 
@@ -186,21 +152,6 @@ fn upper_start(r: usize, p: usize) -> usize
     EMPTY - up * (EMPTY + p - 2 * r)
 }
 
-fn upper_starts(r: usize, positions: &[u32], count: usize) -> [usize; STARTS]
-    requires fact_1 { (r < word_bits) × (count ≤ length positions.now) × (count ≤ most_t) }
-    requires fact_2 { ((i : ℕ) → i < count → get_or positions.now i 0 < r + r) }
-    ensures fact_1 { ((i : ℕ) → i < count → UpperStart r (get_or positions.now i 0) (get_or result i 0)) }
-    ensures fact_2 { ((i : ℕ) → count ≤ i → i < most_starts → get_or result i 0 ≡ empty_window) }
-{
-    let mut from = no_starts();
-    let mut i = 0;
-    while i < count {
-        from[i] = upper_start(r, positions[i] as usize);
-        i += 1;
-    }
-    from
-}
-
 // The product by the upper half of positions below 2r, in the same work however many of them lie there.
 pub fn sparse_upper(r: usize, positions: &[u32], count: usize, x: [u64; WORDS]) -> [u64; WORDS]
     requires fact_1 { (64 ≤ r) × (r < word_bits) × (count ≤ length positions.now) × (count ≤ most_t) }
@@ -208,6 +159,6 @@ pub fn sparse_upper(r: usize, positions: &[u32], count: usize, x: [u64; WORDS]) 
     requires fact_3 { ((i : ℕ) → i < count → get_or positions.now i 0 < r + r) }
     ensures { bits 64 result ≡ mul r (terms r (upper r (take count positions.now))) (bits 64 x) }
 {
-    let from = upper_starts(r, positions, count);
+    let from = starts(count, |i| upper_start(r, positions[i] as usize));
     windows(r, x, &from, count)
 }

@@ -8,12 +8,14 @@ ghost use Rattle.ring.specs.Polynomials.{Poly, InRing, spread};
 ghost use Rattle.ring.specs.inner.Sizes.{words, word_bits, window_words};
 
 use crate::even::alternate;
-use crate::frame::{cut, zeros};
-use crate::multiply::padded;
+use crate::frame::cut;
+use crate::multiply::FACTOR;
 use crate::positions::moved;
 use crate::size::WORDS;
 use crate::sparse::shown;
 use crate::unpack::unpacked;
+use crate::words::padded;
+use hashing::fill::filled;
 
 // A product modulo r.
 fn times(r: usize, h: usize, p: usize) -> usize
@@ -31,6 +33,7 @@ fn halved(r: usize, k: usize) -> usize
     let mut h = 1;
     let mut p = (r + 1) / 2;
     let mut j = k;
+    // A `for` over the digits would have to count them first.
     while 0 < j {
         if j % 2 == 1 {
             h = times(r, h, p);
@@ -48,11 +51,9 @@ fn offsets(r: usize, n: usize) -> [usize; 64]
 {
     let mut o = [0usize; 64];
     let mut at = 0;
-    let mut e = 0;
-    while e < 64 {
+    for e in 0..64 {
         o[e] = at;
         at = moved(r, at, n);
-        e += 1;
     }
     o
 }
@@ -68,24 +69,15 @@ fn taken(w: u64, d: &[u8], r: usize, base: usize, o: &[usize], e: usize) -> u64
     (w << 1) + d[base + o[e]] as u64
 }
 
-// A word whose bit e lies o[e] places after `base`. Eight bits a turn, and all turns are written out by the compiler.
+// A word whose bit e lies o[e] places after `base`.
 fn gather(d: &[u8], r: usize, base: usize, o: &[usize]) -> u64
     requires fact_1 { (base < r) × (r < word_bits) × (r + r ≤ length d.now) × (length o.now ≡ 64) }
     requires fact_2 { ((k : ℕ) → k < r + r → get_or d.now k 0 < 2) × ((e : ℕ) → e < 64 → get_or o.now e 0 < r) }
     ensures { (a : Poly) → Held r a d.now → (e : ℕ) → e < 64 → bit_at result e ≡ a ((base + get_or o.now e 0) % r) }
 {
     let mut w: u64 = 0;
-    let mut e: usize = 64;
-    while 0 < e {
-        e -= 8;
-        let w7 = taken(w, d, r, base, o, e + 7);
-        let w6 = taken(w7, d, r, base, o, e + 6);
-        let w5 = taken(w6, d, r, base, o, e + 5);
-        let w4 = taken(w5, d, r, base, o, e + 4);
-        let w3 = taken(w4, d, r, base, o, e + 3);
-        let w2 = taken(w3, d, r, base, o, e + 2);
-        let w1 = taken(w2, d, r, base, o, e + 1);
-        w = taken(w1, d, r, base, o, e);
+    for e in (0..64).rev() {
+        w = taken(w, d, r, base, o, e);
     }
     w
 }
@@ -99,12 +91,10 @@ fn permuted(r: usize, x: [u64; WORDS], n: usize) -> [u64; WORDS]
     let o = offsets(r, n);
     let stride = (64 * n) % r;
     let mut base = 0;
-    let mut y = zeros();
-    let mut i = 0;
-    while i <= r / 64 {
+    let mut y: [u64; WORDS] = filled(0);
+    for i in 0..r / 64 + 1 {
         y[i] = gather(&d, r, base, &o);
         base = moved(r, base, stride);
-        i += 1;
     }
     y
 }
@@ -129,14 +119,12 @@ fn pairs(d: &[u64], middle: usize, n: usize) -> [u64; WORDS]
     ensures fact_1 { InRing (64 * (2 * n)) (bits 64 result) }
     ensures fact_2 { ((k : ℕ) → k < 64 * (2 * n) → bits 64 result k ≡ bits 64 d.now (source middle k)) }
 {
-    let mut y = zeros();
-    let mut i = 0;
-    while i < n {
+    let mut y: [u64; WORDS] = filled(0);
+    for i in 0..n {
         let x = d[i];
         let h = shown(d, middle, i);
         y[2 * i] = lower(x, h);
         y[2 * i + 1] = upper(x, h);
-        i += 1;
     }
     y
 }
@@ -160,7 +148,7 @@ pub fn once(r: usize, x: [u64; WORDS]) -> [u64; WORDS]
     requires { (r % 2 ≡ 1) × (1 < r) × (r < word_bits) }
     ensures { bits 64 result ≡ spread r 2 (bits 64 x) }
 {
-    let d = padded(x);
+    let d: [u64; FACTOR] = padded(&x);
     cut(r, doubled(&d, (r + 1) / 2, r / 64))
 }
 
@@ -170,11 +158,9 @@ fn repeated(r: usize, x: [u64; WORDS], k: usize) -> [u64; WORDS]
     ensures { bits 64 result ≡ spread r (2 ^ k) (bits 64 x) }
 {
     let mut y = once(r, x);
-    let mut j = 1;
-    while j < k {
+    for j in 1..k {
         let next = once(r, y);
         y = next;
-        j += 1;
     }
     y
 }

@@ -8,6 +8,7 @@ ghost use Rattle.ring.specs.Polynomials.{bit};
 ghost use Rattle.ring.specs.inner.Sizes.{words, word_bits};
 
 use crate::size::WORDS;
+use hashing::fill::filled;
 
 // Bytes for the bits of a polynomial of the largest level, twice.
 pub const TWICE_BITS: usize = 2 * 64 * WORDS;
@@ -21,7 +22,7 @@ fn digits(b: u64) -> u64
     (((b % 128) * 0x40810204081) & 0x1010101010101) | ((b / 128) << 56)
 }
 
-// The bytes of a word, the lowest first. (Written out, the eight stores become one.)
+// The bytes of a word, the lowest first. (Written out, the eight stores become one; `lay_eight` costs more here.)
 fn put(out: &mut [u8], at: usize, v: u64)
     requires { at + 8 ≤ length out.old }
     ensures { out.new ≡ sets out.old at (tab 8 (λ m. v / 2 ^ (8 * m) % 256)) }
@@ -42,11 +43,9 @@ fn lay_word(out: &mut [u8], at: usize, w: u64)
     ensures by_index { (k : ℕ) → k < 64 → get_or out.new (at + k) 0 ≡ bit (bit_at w k) }
     ensures by_index_2 { (k : ℕ) → (k < at) ⊎ (at + 64 ≤ k) → get_or out.new k 0 ≡ get_or out.old k 0 }
 {
-    let mut j = 0;
-    while j < 8 {
+    for j in 0..8 {
         let b = (w >> (8 * j)) % 256;
         put(out, at + 8 * j, digits(b));
-        j += 1;
     }
 }
 
@@ -56,10 +55,8 @@ fn lay(x: &[u64], n: usize, out: &mut [u8])
     ensures by_index { (k : ℕ) → k < 64 * n → get_or out.new k 0 ≡ bit (bits 64 x.now k) }
     ensures by_index_2 { (k : ℕ) → 64 * n ≤ k → get_or out.new k 0 ≡ get_or out.old k 0 }
 {
-    let mut i = 0;
-    while i < n {
+    for i in 0..n {
         lay_word(out, 64 * i, x[i]);
-        i += 1;
     }
 }
 
@@ -69,22 +66,14 @@ fn repeat(out: &mut [u8], r: usize)
     ensures by_index { (k : ℕ) → k < r → get_or out.new (r + k) 0 ≡ get_or out.old k 0 }
     ensures by_index_2 { (k : ℕ) → (k < r) ⊎ (2 * r ≤ k) → get_or out.new k 0 ≡ get_or out.old k 0 }
 {
-    let mut i = 0;
-    while i < r {
-        out[r + i] = out[i];
-        i += 1;
-    }
-}
-
-fn blank() -> [u8; TWICE_BITS] {
-    [0u8; TWICE_BITS]
+    out.copy_within(..r, r);
 }
 
 pub fn unpacked(r: usize, x: [u64; WORDS]) -> [u8; TWICE_BITS]
     requires { r < word_bits }
     ensures { Held r (bits 64 x) result }
 {
-    let mut d = blank();
+    let mut d: [u8; TWICE_BITS] = filled(0);
     lay(&x, r / 64 + 1, &mut d);
     repeat(&mut d, r);
     d

@@ -7,15 +7,15 @@ ghost use Rattle.ring.specs.Polynomials;
 ghost use Rattle.ring.specs.inner.Wide.{Outside};
 ghost use Rattle.ring.specs.inner.Sizes.{words, word_bytes};
 
-use crate::frame::zeros;
 use crate::size::WORDS;
-use hashing::lanes::{eight_bytes, lay_eight};
+use hashing::fill::filled;
+use hashing::lanes::{byte_of, eight_bytes, lay_eight};
 
 // Word i, and 0 past the end.
 pub fn word(x: &[u64], i: usize) -> u64
     ensures { result ≡ get_or x.now i 0 }
 {
-    if i < x.len() { x[i] } else { 0 }
+    x.get(i).copied().unwrap_or(0)
 }
 
 // The 64 bits that start s below the upper of two words in a row.
@@ -32,11 +32,17 @@ pub fn place(t: &mut [u64], b: &[u64], at: usize)
     ensures outside { Outside at (length b.now) t.old t.new }
     ensures by_index { (i : ℕ) → i < length b.now → get_or t.new (at + i) 0 ≡ get_or b.now i 0 }
 {
-    let mut i = 0;
-    while i < b.len() {
-        t[at + i] = b[i];
-        i += 1;
-    }
+    t[at..at + b.len()].copy_from_slice(b);
+}
+
+// b, with words of 0 behind it.
+pub fn padded<const N: usize>(b: &[u64]) -> [u64; N]
+    requires { length b.now ≤ N }
+    ensures { bits 64 result ≡ bits 64 b.now }
+{
+    let mut p: [u64; N] = filled(0);
+    place(&mut p, b, 0);
+    p
 }
 
 // The sum of two polynomials of n words.
@@ -44,11 +50,9 @@ pub fn sum(a: [u64; WORDS], b: [u64; WORDS], n: usize) -> [u64; WORDS]
     requires { (n ≤ words) × InRing (64 * n) (bits 64 a) × InRing (64 * n) (bits 64 b) }
     ensures { bits 64 result ≡ add (bits 64 a) (bits 64 b) }
 {
-    let mut c = zeros();
-    let mut i = 0;
-    while i < n {
+    let mut c: [u64; WORDS] = filled(0);
+    for i in 0..n {
         c[i] = a[i] ^ b[i];
-        i += 1;
     }
     c
 }
@@ -59,19 +63,17 @@ pub fn weight(a: [u64; WORDS], n: usize) -> usize
     ensures { result ≡ Polynomials.weight (64 * n) (bits 64 a) }
 {
     let mut ones = 0;
-    let mut i = 0;
-    while i < n {
+    for i in 0..n {
         ones += u64::count_ones(a[i]) as usize;
-        i += 1;
     }
     ones
 }
 
-// Byte i, and 0 past the end.
+// Byte i, and 0 past the end: a line each, so that one function over both types would say no less.
 fn byte(b: &[u8], i: usize) -> u8
     ensures { result ≡ get_or b.now i 0 }
 {
-    if i < b.len() { b[i] } else { 0 }
+    b.get(i).copied().unwrap_or(0)
 }
 
 // The eight bytes from `at` on, the first one lowest, and 0 past the end.
@@ -80,9 +82,7 @@ fn end_word(b: &[u8], at: usize) -> u64
     ensures { (e : ℕ) → e < 64 → bit_at result e ≡ bits 8 b.now (8 * at + e) }
 {
     let mut w = 0;
-    let mut m = 8;
-    while 0 < m {
-        m -= 1;
+    for m in (0..8).rev() {
         w = (w << 8) | byte(b, at + m) as u64;
     }
     w
@@ -105,11 +105,9 @@ pub fn load(bytes: &[u8]) -> [u64; WORDS]
     ensures { bits 64 result ≡ bits 8 bytes.now }
 {
     let n = (bytes.len() + 7) / 8;
-    let mut a = zeros();
-    let mut i = 0;
-    while i < n {
+    let mut a: [u64; WORDS] = filled(0);
+    for i in 0..n {
         a[i] = word_of(bytes, 8 * i);
-        i += 1;
     }
     a
 }
@@ -121,10 +119,8 @@ fn store_words(a: &[u64], out: &mut [u8])
         ++ drop (8 * (length out.old / 8)) out.old }
 {
     let n = out.len() / 8;
-    let mut i = 0;
-    while i < n {
+    for i in 0..n {
         lay_eight(a[i], out, 8 * i);
-        i += 1;
     }
 }
 
@@ -134,10 +130,7 @@ pub fn store(a: [u64; WORDS], out: &mut [u8])
     ensures { out.new ≡ list_of 8 (length out.old) (bits 64 a) }
 {
     store_words(&a, out);
-    let mut i = 8 * (out.len() / 8);
-    while i < out.len() {
-        let s = 8 * (i % 8);
-        out[i] = ((a[i / 8] >> s as u64) % 256) as u8;
-        i += 1;
+    for i in 8 * (out.len() / 8)..out.len() {
+        out[i] = byte_of(a[i / 8], i % 8);
     }
 }

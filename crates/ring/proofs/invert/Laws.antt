@@ -1,6 +1,6 @@
 -- What the code of the inverse rests on. Assumes nothing.
 use mathlib.Core.Path.{◌≡◌, refl, sym, ap, ap₂, fun_ext, ◌∙◌}
-use mathlib.Core.Bool.{Bool, true, false, true≢false}
+use mathlib.Core.Bool.{Bool, true, false}
 use mathlib.Core.List.{List}
 use Prim.Native.Nat.{ℕ, zero, suc, ◌+◌, ◌*◌, ◌-◌, ◌/◌, ◌%◌, ◌^◌, ◌≤◌, ◌<◌}
 use native.Mathlib.Nat.{zero-mod, le_antisymm, div-eq_of_lt, le-div_iff_mul-le, one-mul}
@@ -13,6 +13,8 @@ use lib.Dec.{eqb, lit<}
 use lib.ListN.{length, get_or, set}
 use lib.Pow.{pow_pos, pow_mono, shr_lt, shr-shr}
 use borrow.Author.Tests.{ne_eqb}
+use Rattle.std.specs.Bool.{then_some}
+use Rattle.std.specs.Prelude.{is_some, IfSome}
 use Rattle.hashing.proofs.Words.{bit_above}
 use Rattle.hashing.specs.Lists.{bit_at, bits}
 use Rattle.ring.specs.Polynomials.{Poly, InRing, Tells, flip, one, power, add, mul, has_inverse, inverse_of}
@@ -100,14 +102,14 @@ one_tells r a t told =
 
 -- the product with a decides
 module _ (r : ℕ) (pos : 0 < r) (cycle : 2 ^ (r - 1) % r ≡ 1) {a : Poly} (ha : InRing r a) where
-  pub decided : {x m : Poly} → x ≡ candidate r a → m ≡ mul r a x → (t : Bool) → Tells t (m ≡ one r)
-      → (t ≡ has_inverse r a) × (t ≡ true → x ≡ inverse_of r a)
-  decided {x} {m} is product true told =
+  pub decided : (x : List ℕ) {m : Poly} → bits 64 x ≡ candidate r a → m ≡ mul r a (bits 64 x) → (t : Bool) → Tells t (m ≡ one r)
+      → (is_some (then_some t x) ≡ has_inverse r a) × IfSome (then_some t x) (λ value. bits 64 value ≡ inverse_of r a)
+  decided x is product true told =
       let passes = test_passes r pos a (ap (mul r a) (sym is) ∙ sym product ∙ told.holds refl) in
-      (sym passes.0, λ e. is ∙ sym passes.1)
-  decided {x} {m} is product false told =
+      (sym passes.0, is ∙ sym passes.1)
+  decided x is product false told =
       let fails = test_fails r pos cycle ha (λ e. told.fails refl (product ∙ ap (mul r a) is ∙ e)) in
-      (sym fails, λ e. absurd (true≢false (sym e)))
+      (sym fails, tt)
 
   -- and need not, where a is known to have an inverse
   pub unit_inverse : has_inverse r a ≡ true → candidate r a ≡ inverse_of r a

@@ -1,6 +1,6 @@
 -- The sparse product: windows of a polynomial held twice in a row, and a product term by term. Assumes nothing.
-use mathlib.Core.Path.{◌≡◌, refl, sym, ap, ap₂, fun_ext, ◌∙◌}
-use mathlib.Core.Bool.{Bool, true, false, ◌||◌, or-false}
+use mathlib.Core.Path.{◌≡◌, sym, ap, ap₂, fun_ext, ◌∙◌}
+use mathlib.Core.Bool.{Bool, false, ◌||◌, or-false}
 use mathlib.Core.Logic.{inl, inr}
 use mathlib.Core.List.{List, [], ◌∷◌, ◌++◌, append-nil}
 use Prim.Native.Nat.{ℕ, zero, suc, ◌+◌, ◌-◌, ◌*◌, ◌/◌, ◌%◌, ◌^◌, ◌≤◌, ◌<◌}
@@ -8,14 +8,11 @@ use native.Mathlib.Nat.{le_refl, mod-eq_of_lt, mod-eq-sub-mod, mul_comm, mul_ass
 use native.Mathlib.Decide.{dec_lt, ℕ_discrete}
 use native.Mathlib.Numerals.{add-one}
 use native.Mathlib.Omega.{arith}
-use borrow.Author.Count.{below_more}
-use borrow.Author.Tests.{leb-true, leb-false, le-leb, lt-leb}
-use mir.Val.{bool_byte}
+use borrow.Author.Tests.{le-leb, lt-leb}
 use lib.Bits.{bit_or, bit_xor}
-use lib.Dec.{leb}
 use lib.ListN.{length, get_or, set, replicate, take, get_or-replicate}
 use lib.Pow.{pow-add}
-use lib.Seq.{get_or-set_same, get_or-set_other, take-suc}
+use lib.Seq.{take-suc}
 use Rattle.hashing.specs.Lists.{bit_at, bits}
 use Rattle.hashing.proofs.Words.{bit-or, bit-mod, bit_shl, bit_shl_below, bit_shr, bits_at, bit_above}
 use Rattle.ring.specs.Polynomials.{Poly, InRing, flip, parity, over, power, add, terms, mul}
@@ -145,16 +142,6 @@ module _ (r : ℕ) (pos : 0 < r) where
       Ring.ring_ext r inside (Ring.mul_in r pos (terms r (list n)) x)
       (λ k below. sum k below ∙ windows_sum r x k n (λ i. window r x (from i) k) list none (λ i h. more k i below h))
 
--- the start by arithmetic
-pub start-chosen : (r p : ℕ) → r < word_bits → p < r + r → (bool_byte (leb r p) * (empty_window + p - 2 * r) ≤ empty_window)
-    × UpperStart r p (empty_window - bool_byte (leb r p) * (empty_window + p - 2 * r))
-start-chosen r p small low = go (leb r p) refl
-  where
-    go : (t : Bool) → leb r p ≡ t → (bool_byte t * (empty_window + p - 2 * r) ≤ empty_window)
-        × UpperStart r p (empty_window - bool_byte t * (empty_window + p - 2 * r))
-    go true e = let high = leb-true r p e in (omega arith, ((λ h. omega arith), λ h. omega arith))
-    go false e = let lower = leb-false r p e in (omega arith, ((λ h. omega arith), λ h. omega arith))
-
 pub upper_is_start : (r p from : ℕ) → UpperStart r p from → Start r from
 upper_is_start r p from start = go (dec_lt p r)
   where
@@ -165,19 +152,6 @@ upper_is_start r p from start = go (dec_lt p r)
 -- none is stored yet
 pub starts_empty : {from : List ℕ} → from ≡ replicate most_starts empty_window → (j : ℕ) → j < most_starts → get_or from j 0 ≡ empty_window
 starts_empty none j room = ap (λ (xs : List ℕ). get_or xs j 0) none ∙ get_or-replicate most_starts j empty_window 0 room
-
--- a start more is stored
-pub start_more : (P : ℕ → ℕ → Type 0) (from : List ℕ) (i v : ℕ) → i < length from → ((j : ℕ) → j < i → P j (get_or from j 0)) → P i v
-    → (j : ℕ) → j < i + 1 → P j (get_or (set from i v) j 0)
-start_more P from i v room before here =
-    below_more (λ j. P j (get_or (set from i v) j 0)) i
-    (λ j h. rw (get_or-set_other from i j v 0 (λ e. omega arith)) (before j h))
-    (rw (get_or-set_same from i v 0 room) here)
-
--- and the rest stays empty
-pub start_rest : (from : List ℕ) (i v : ℕ) → ((j : ℕ) → i ≤ j → j < most_starts → get_or from j 0 ≡ empty_window)
-    → (j : ℕ) → i + 1 ≤ j → j < most_starts → get_or (set from i v) j 0 ≡ empty_window
-start_rest from i v rest j past room = get_or-set_other from i j v 0 (λ e. omega arith) ∙ rest j (omega arith) room
 
 -- the word of r is filled up from the first
 module _ (r : ℕ) (xs : List ℕ) (room : r / 64 < length xs) (big : 64 ≤ r) (inside : InRing r (bits 64 xs)) where

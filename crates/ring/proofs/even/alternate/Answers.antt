@@ -30,9 +30,3 @@ returns c =
       bit-or _ _ (k + k) ∙ ap₂ ◌||◌ (there_at first k below) (up_even second k below) ∙ or-false _,
       bit-or _ _ (k + k + 1) ∙ ap₂ ◌||◌ (between_at first k below) (up_high _ 1 (k + k) (omega arith) ∙ there_at second k below),
     )
-
-pub even-requires : goal.even-requires
-even-requires c = c.requires.0
-
-pub even-requires-2 : goal.even-requires-2
-even-requires-2 c = c.requires.1

@@ -4,6 +4,3 @@ use Rattle.ring.proofs.even.apart.Goals as goal
 
 pub returns : goal.returns
 returns c = λ y n size masks was. blocks_apart c.args.s n y c.args.v c.args.mask size masks was
-
-pub overflow_shl-result : goal.overflow_shl-result
-overflow_shl-result c = c.requires

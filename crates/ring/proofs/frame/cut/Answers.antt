@@ -5,16 +5,13 @@ use native.Mathlib.Nat.{one-mul}
 use native.Mathlib.Omega.{arith}
 use lib.Dec.{lit<}
 use lib.ListN.{length}
-use lib.Pow.{pow_pos, shl_exact}
+use lib.Pow.{shl_exact}
 use Rattle.ring.proofs.frame.Laws.{cut_in, cut_below}
 use Rattle.ring.proofs.frame.cut.Goals as goal
 use Rattle.ring.proofs.frame.cut.Goals.{Start}
 
 mask : (c : Start) → (1 * 2 ^ (c.args.r % 64)) % 2 ^ 64 ≡ 2 ^ (c.args.r % 64)
 mask c = shl_exact 1 (c.args.r % 64) 64 (lit< tt) (omega arith) ∙ one-mul (2 ^ (c.args.r % 64))
-
-pub nonzero_rem-y-2 : goal.nonzero_rem-y-2
-nonzero_rem-y-2 c = rw (mask (goal.at.nonzero_rem-y-2 c).Start) (pow_pos (c.args.r % 64))
 
 pub returns : goal.returns
 returns c =

@@ -21,14 +21,10 @@ pub returns : goal.returns
 returns c =
     let r = c.args.r in
     let ha = c.requires.fact_2 in
-    let told = decided r (omega arith) c.requires.fact_1.3 ha (c.power-made.ensures.fact_1 ∙ chain_is r (omega arith) ha (omega arith))
+    let told = decided r (omega arith) c.requires.fact_1.3 ha _ (c.power-made.ensures.fact_1 ∙ chain_is r (omega arith) ha (omega arith))
     (c.times.ensures ∙ mul_comm r _ _) c.is_one.result (c.is_one.ensures r) in
-    record { fact_1 = told.0; fact_2 = told.1; fact_3 = c.power-made.ensures.fact_2 }
-
-pub power-made-requires : goal.power-made-requires
-power-made-requires c =
     record {
-      fact_1 = (omega arith, omega arith, omega arith);
-      fact_2 = c.requires.fact_2;
-      fact_3 = c.requires.fact_3;
+      fact_1 = rw c.then_some.ensures told.0;
+      fact_2 = rw c.then_some.ensures told.1;
+      fact_3 = c.power-made.ensures.fact_2;
     }

@@ -10,11 +10,3 @@ returns c =
     let r = c.args.r in
     let ha = c.requires.fact_2 in
     c.power-made.ensures.fact_1 ∙ chain_is r (omega arith) ha (omega arith) ∙ unit_inverse r (omega arith) c.requires.fact_1.3 ha c.requires.fact_4
-
-pub power-made-requires : goal.power-made-requires
-power-made-requires c =
-    record {
-      fact_1 = (omega arith, omega arith, omega arith);
-      fact_2 = c.requires.fact_2;
-      fact_3 = c.requires.fact_3;
-    }

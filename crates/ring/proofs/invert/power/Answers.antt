@@ -12,7 +12,7 @@ use Rattle.ring.proofs.invert.power.Goals as goal
 pub loop-n-init : goal.loop-n-init
 loop-n-init c =
     let u : ℕ = c.args.r - 2 in
-    (omega arith, c.requires.fact_2, c.requires.fact_3, rw (c.top-n.ensures.1, top_one u (omega arith)), omega arith)
+    (c.requires.fact_2, c.requires.fact_3, rw (c.top-n.ensures.1, top_one u (omega arith)), omega arith)
 
 pub loop-n-preserved : goal.loop-n-preserved
 unfolding bit_at
@@ -22,12 +22,11 @@ loop-n-preserved c =
     let given = c.args in
     let n : ℕ = was.n - 1 in
     let one_less : was.n ≡ n + 1 = omega arith in (
-      omega arith,
       rw made.fact_1 (rung_in given.r (omega arith) (bits 64 given.a) _ _),
       (λ few. absurd (omega (arith, few))),
       rw (made.fact_1, made.fact_2)
-          (sym (next_rung given.r (bits 64 given.a) (given.r - 2) n (bits 64 was.x) was.count) ∙ (rw one_less at was.invariant.3)),
-      rw made.fact_2 (rung_price given.r (bits 64 given.a) _ _ n 128 (rw one_less at was.invariant.4)),
+          (sym (next_rung given.r (bits 64 given.a) (given.r - 2) n (bits 64 was.x) was.count) ∙ (rw one_less at was.invariant.2)),
+      rw made.fact_2 (rung_price given.r (bits 64 given.a) _ _ n 128 (rw one_less at was.invariant.3)),
     )
 
 pub returns : goal.returns
@@ -35,17 +34,8 @@ unfolding chain chain_products climbed climb digits
 returns c =
     let was = c.loop-n in
     let end : was.n ≡ 0 = omega arith in
-    let at-end = rw end at was.invariant.3 in
+    let at-end = rw end at was.invariant.2 in
     record {
       fact_1 = c.once.ensures ∙ ap (λ (e : Rung). spread c.args.r 2 e.value) at-end;
       fact_2 = ap (λ (e : Rung). e.products) at-end;
-    }
-
-pub climb-next-requires : goal.climb-next-requires
-climb-next-requires c = let so = c.loop-n.invariant in
-    record {
-      fact_1 = (omega arith, omega arith, omega arith);
-      fact_2 = (c.requires.fact_2, so.1);
-      fact_3 = (c.requires.fact_3, so.2);
-      fact_4 = omega arith;
     }

@@ -9,10 +9,7 @@ use Rattle.ring.proofs.invert.power.Given as goal
 
 abbrev pub invariant-loop-n : goal.invariant-loop-n
 invariant-loop-n l =
-    (l.n < 64) × InRing l.r (bits 64 l.x) × Ones l.r (bits 64 l.x) l.ones_x
+    InRing l.r (bits 64 l.x) × Ones l.r (bits 64 l.x) l.ones_x
     × (climb l.r (bits 64 l.a) (record { value = bits 64 l.x; span = l.u / 2 ^ l.n; products = l.count }) (digits l.n l.u)
     ≡ climb l.r (bits 64 l.a) (record { value = bits 64 l.a; span = 1; products = 0 }) (digits (top l.u) l.u))
     × (l.count + 2 * l.n < 128)
-
-abbrev pub decreases-loop-n : goal.decreases-loop-n
-decreases-loop-n l = l.n

@@ -1,9 +1,7 @@
 -- `step` multiplies what `squared` gives, which is in the ring.
-use mathlib.Core.Path.{refl, ap, ◌∙◌}
 use native.Mathlib.Omega.{arith}
 use Prim.Native.Nat.{◌^◌}
 use Rattle.hashing.specs.Lists.{bits}
-use Rattle.ring.specs.Polynomials.{Poly, mul}
 use Rattle.ring.proofs.Powers.{spread_in}
 use Rattle.ring.proofs.invert.step.Goals as goal
 
@@ -15,14 +13,3 @@ times-requires c =
       fact_2 = (rw c.squared.ensures (spread_in given.r (omega arith) (2 ^ given.k) (bits 64 given.x)), c.requires.fact_2);
       fact_3 = c.requires.fact_3;
     }
-
-pub returns : goal.returns
-returns c =
-    let given = c.args in
-    record {
-      fact_1 = c.times.ensures ∙ ap (λ (p : Poly). mul given.r p (bits 64 given.y)) c.squared.ensures;
-      fact_2 = refl;
-    }
-
-pub squared-requires : goal.squared-requires
-squared-requires c = (omega arith, omega arith, omega arith)

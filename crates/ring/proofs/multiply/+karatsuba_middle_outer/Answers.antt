@@ -77,13 +77,13 @@ middle-returns t c =
     let x = c.add_halves.new.s in
     let y = c.add_halves-2.new.s in
     let k = c.karatsuba in
-    let at_x = room a.h c.half_zeros-x.result x half c.half_zeros-x.ensures c.add_halves.auto.s in
-    let at_y = room a.h c.half_zeros-y.result y half c.half_zeros-y.ensures c.add_halves-2.auto.s in (
+    let at_x = room a.h c.filled-x.result x half c.filled-x.ensures c.add_halves.auto.s in
+    let at_y = room a.h c.filled-y.result y half c.filled-y.ensures c.add_halves-2.auto.s in (
       k.ensures.0,
       ap (bits 64) (front_is (2 * a.h) a.m.now k.new.c (k.auto.c ∙ length-take-le (2 * a.h) a.m.now pre.5))
           ∙ k.ensures.1
           ∙ ap (λ (n : ℕ). wide (64 * n) (bits 64 (take a.h x)) (bits 64 (take a.h y))) (length-take-le a.h x at_x)
           ∙ ap₂ (wide (64 * a.h))
-          (halves_sum a.h half_words a.a.now c.half_zeros-x.result x pre.3 at_x c.half_zeros-x.ensures c.add_halves.ensures)
-          (halves_sum a.h half_words a.b.now c.half_zeros-y.result y pre.4 at_y c.half_zeros-y.ensures c.add_halves-2.ensures),
+          (halves_sum a.h half_words a.a.now c.filled-x.result x pre.3 at_x c.filled-x.ensures c.add_halves.ensures)
+          (halves_sum a.h half_words a.b.now c.filled-y.result y pre.4 at_y c.filled-y.ensures c.add_halves-2.ensures),
     )

@@ -2,7 +2,7 @@
 use mathlib.Core.Path.{◌≡◌, refl, sym, ap, ap₂, ◌∙◌}
 use mathlib.Core.Logic.{inr}
 use Prim.Native.Nat.{ℕ, ◌+◌, ◌*◌, ◌<◌}
-use native.Mathlib.Nat.{le_refl, not-suc-le-zero}
+use native.Mathlib.Nat.{le_refl}
 use native.Mathlib.Omega.{arith}
 use lib.Bits.{bit_xor}
 use lib.ListN.{length, get_or, length-set}
@@ -41,9 +41,3 @@ returns c =
     let all : l.i ≡ length a.m.now = omega arith in
     added a.at a.c.now a.m.now l.c (rw (← all) l.invariant.2)
     (bits_from l.c a.at (length a.m.now) (λ k. flip (bits 64 a.c.now (64 * a.at + k)) (bits 64 a.m.now k)) (rw (← all) l.invariant.3))
-
-pub loop-i-init : goal.loop-i-init
-loop-i-init c = (omega arith, refl, (λ q h. refl), λ q h. absurd (not-suc-le-zero h))
-
-pub shape_of-c : goal.shape_of-c
-shape_of-c c = c.loop-i.invariant.1

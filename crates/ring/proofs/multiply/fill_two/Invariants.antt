@@ -21,6 +21,3 @@ abbrev pub invariant-loop-i : goal.invariant-loop-i
 invariant-loop-i l =
     (l.i ≤ l.n + 1) × (length l.t ≡ length l.initial.t) × ((j : ℕ) → Away l.to l.i j → Away (l.to + row_words) l.i j → get_or l.t j 0 ≡ get_or l.initial.t j 0)
     × ((j : ℕ) → j < l.i → Even l.initial.t l.from j (get_or l.t (l.to + j) 0)) × ((j : ℕ) → j < l.i → Odd l.initial.t l.from j (get_or l.t (l.to + row_words + j) 0))
-
-abbrev pub decreases-loop-i : goal.decreases-loop-i
-decreases-loop-i l = l.n + 1 - l.i

@@ -42,9 +42,3 @@ loop-v-preserved c =
       rows_more n l.v (bits 64 b) l.t f.new.t c.requires.0 l.invariant.0 (omega arith) inside f.auto.t l.invariant.2
           f.ensures.by_index f.ensures.by_index_2 f.ensures.by_index_3 l.invariant.3,
     )
-
-pub returns : goal.returns
-returns c =
-    let l = c.loop-v in
-    let all : l.v ≡ 16 = omega arith in
-    (l.invariant.2, rw all at l.invariant.3)

@@ -5,9 +5,6 @@ use Rattle.hashing.specs.Lists.{bits}
 use Rattle.ring.proofs.multiply.Laws.{reduced}
 use Rattle.ring.proofs.multiply.multiply.Goals as goal
 
-pub wide_product-requires : goal.wide_product-requires
-wide_product-requires c = (omega arith, (λ k h. c.requires.fact_2 k (omega arith)), λ k h. c.requires.fact_3 k (omega arith))
-
 pub returns : goal.returns
 returns c = let a = c.args in
     let pre = c.requires in

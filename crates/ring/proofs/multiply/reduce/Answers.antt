@@ -41,7 +41,7 @@ returns c =
 pub loop-i-init : goal.loop-i-init
 loop-i-init c = (
   omega arith,
-  done_none (folded c.args.x c.args.r) c.zeros-y.result c.zeros-y.ensures,
+  done_none (folded c.args.x c.args.r) c.filled-y.result c.filled-y.ensures,
 )
 
 pub cut-requires : goal.cut-requires

@@ -1,8 +1,6 @@
 -- `multiply::seven` meets its contract. Assumes nothing.
-use mathlib.Core.Path.{◌≡◌, ap}
 use mathlib.Core.Bool.{Bool}
-use Prim.Native.Nat.{ℕ, ◌+◌, ◌<◌}
-use lib.Dec.{lit<}
+use Prim.Native.Nat.{ℕ, ◌+◌}
 use lib.ListN.{get_or}
 use Rattle.hashing.specs.Lists.{bit_at}
 use Rattle.ring.proofs.Packed.{bits_same, sum_one, sum_more}
@@ -21,24 +19,3 @@ returns c =
     (bits_same c.entry-5.ensures))
     (bits_same c.entry-6.ensures))
     (bits_same c.entry-7.ensures)).bit
-
-pub entry-requires : goal.entry-requires
-entry-requires c = c.requires 0 (lit< tt)
-
-pub entry-requires-2 : goal.entry-requires-2
-entry-requires-2 c = c.requires 1 (lit< tt)
-
-pub entry-requires-3 : goal.entry-requires-3
-entry-requires-3 c = c.requires 2 (lit< tt)
-
-pub entry-requires-4 : goal.entry-requires-4
-entry-requires-4 c = c.requires 3 (lit< tt)
-
-pub entry-requires-5 : goal.entry-requires-5
-entry-requires-5 c = c.requires 4 (lit< tt)
-
-pub entry-requires-6 : goal.entry-requires-6
-entry-requires-6 c = c.requires 5 (lit< tt)
-
-pub entry-requires-7 : goal.entry-requires-7
-entry-requires-7 c = c.requires 6 (lit< tt)

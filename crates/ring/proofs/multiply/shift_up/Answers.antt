@@ -1,8 +1,8 @@
 -- `multiply::shift_up` meets its contract: i words are shifted, the others stand as they were, and `low` is the word before. Assumes nothing.
-use mathlib.Core.Path.{◌≡◌, refl, ap₂, ◌∙◌}
+use mathlib.Core.Path.{◌≡◌, ap₂, ◌∙◌}
 use mathlib.Core.List.{[], ◌∷◌}
 use Prim.Native.Nat.{ℕ, ◌+◌, ◌*◌, ◌<◌}
-use native.Mathlib.Nat.{le_refl, not-suc-le-zero}
+use native.Mathlib.Nat.{le_refl}
 use native.Mathlib.Numerals.{add-one}
 use native.Mathlib.Omega.{arith}
 use lib.Dec.{lit<, lit≤}
@@ -29,12 +29,6 @@ loop-i-preserved c =
           ∙ ap₂ (λ (low high : ℕ). bits 64 (low ∷ high ∷ []) (59 + e)) l.invariant.2 (l.invariant.3 l.i (le_refl l.i))
           ∙ carried x₀ 5 l.i e (lit≤ tt) h),
     )
-
-pub loop-i-init : goal.loop-i-init
-loop-i-init c = (omega arith, refl, refl, (λ j h. refl), λ j h. absurd (not-suc-le-zero h))
-
-pub shape_of-x : goal.shape_of-x
-shape_of-x c = c.loop-i.invariant.1
 
 pub returns : goal.returns
 returns c = let l = c.loop-i in

@@ -1,5 +1,5 @@
 -- `multiply::wide_product` meets its contract. Assumes nothing.
-use mathlib.Core.Path.{◌≡◌, sym, ap, ap₂, ◌∙◌}
+use mathlib.Core.Path.{◌≡◌, ap, ap₂, ◌∙◌}
 use mathlib.Core.List.{List}
 use Prim.Native.Nat.{ℕ, ◌+◌, ◌-◌, ◌*◌, ◌≤◌}
 use native.Mathlib.Omega.{arith}
@@ -13,7 +13,7 @@ use Rattle.ring.proofs.Shifts.{wide_more}
 use Rattle.ring.proofs.multiply.Laws.{clear_none}
 use Rattle.ring.proofs.multiply.Parts.{bits_front, front_back}
 use Rattle.ring.proofs.multiply.wide_product.Goals as goal
-use Rattle.ring.proofs.multiply.wide_product.Goals.{After-split_of-split, After-wide_zeros-c}
+use Rattle.ring.proofs.multiply.wide_product.Goals.{After-split_of-split, After-filled-c}
 
 -- the words that are multiplied
 module _ (c : After-split_of-split) where
@@ -33,8 +33,8 @@ module _ (c : After-split_of-split) where
       let covers : c.args.n ≤ long = c.split_of-split.ensures.2 in
       bits_front long p (omega (arith, room)) (rw same (λ k above. inside k (omega arith))) ∙ same
 
-both : (c : After-split_of-split) (d : After-wide_zeros-c) → length (take (2 * long c) d.wide_zeros-c.result) ≡ 2 * long c
-both c d = length-take-le (2 * long c) d.wide_zeros-c.result (omega (arith, room c))
+both : (c : After-split_of-split) (d : After-filled-c) → length (take (2 * long c) d.filled-c.result) ≡ 2 * long c
+both c d = length-take-le (2 * long c) d.filled-c.result (omega (arith, room c))
 
 pub returns : goal.returns
 returns c = λ k below.
@@ -47,35 +47,11 @@ returns c = λ k below.
     let m = long (goal.at.returns c).After-split_of-split in
     let more : 64 * m ≡ n + (64 * m - n) = omega (arith, c.split_of-split.ensures.2) in
     ap (λ (p : Poly). p k)
-    (front_back (2 * m) wide_words c.wide_zeros-c.result product.new.c c.wide_zeros-c.ensures (product.auto.c ∙ both (goal.at.returns c).After-split_of-split (goal.at.returns c).After-wide_zeros-c)
+    (front_back (2 * m) wide_words c.filled-c.result product.new.c c.filled-c.ensures (product.auto.c ∙ both (goal.at.returns c).After-split_of-split (goal.at.returns c).After-filled-c)
     ∙ product.ensures.1
     ∙ ap (λ (m : ℕ). wide (64 * m) (bits 64 (take (long (goal.at.returns c).After-split_of-split) pa.result)) (bits 64 (take (long (goal.at.returns c).After-split_of-split) pb.result))) (front (goal.at.returns c).After-split_of-split pa.result (omega arith))
     ∙ ap₂ (wide (64 * m)) (factor (goal.at.returns c).After-split_of-split a pa.result (omega arith) c.requires.1 pa.ensures) (factor (goal.at.returns c).After-split_of-split b pb.result (omega arith) c.requires.2 pb.ensures))
     ∙ ap (λ (m : ℕ). wide m (bits 64 a) (bits 64 b) k) more ∙ wide_more n (64 * m - n) (bits 64 a) (bits 64 b) k c.requires.1
-
-pub split_of-split-requires : goal.split_of-split-requires
-split_of-split-requires c = c.requires.0
-
-pub slice_bounds-pa-end : goal.slice_bounds-pa-end
-slice_bounds-pa-end c = omega (arith, room (goal.at.slice_bounds-pa-end c).After-split_of-split)
-
-pub slice_bounds-karatsuba-end : goal.slice_bounds-karatsuba-end
-slice_bounds-karatsuba-end c = sym (front (goal.at.slice_bounds-karatsuba-end c).After-split_of-split c.padded-pa.result (omega arith))
-
-pub slice_bounds-pb-end : goal.slice_bounds-pb-end
-slice_bounds-pb-end c = omega (arith, room (goal.at.slice_bounds-pb-end c).After-split_of-split)
-
-pub slice_bounds-karatsuba-end-2 : goal.slice_bounds-karatsuba-end-2
-slice_bounds-karatsuba-end-2 c = sym (front (goal.at.slice_bounds-karatsuba-end-2 c).After-split_of-split c.padded-pb.result (omega arith))
-
-pub overflow_mul-c : goal.overflow_mul-c
-overflow_mul-c c = omega (arith, room (goal.at.overflow_mul-c c).After-split_of-split)
-
-pub slice_bounds-c-end : goal.slice_bounds-c-end
-slice_bounds-c-end c = omega (arith, room (goal.at.slice_bounds-c-end c).After-split_of-split)
-
-pub slice_bounds-karatsuba-end-3 : goal.slice_bounds-karatsuba-end-3
-slice_bounds-karatsuba-end-3 c = sym (both (goal.at.slice_bounds-karatsuba-end-3 c).After-split_of-split (goal.at.slice_bounds-karatsuba-end-3 c).After-wide_zeros-c)
 
 pub karatsuba-requires : goal.karatsuba-requires
 karatsuba-requires c = let split = c.split_of-split.ensures in
@@ -84,6 +60,6 @@ karatsuba-requires c = let split = c.split_of-split.ensures in
       rw size at split.3,
       front (goal.at.karatsuba-requires c).After-split_of-split c.padded-pa.result (omega arith) ∙ size,
       front (goal.at.karatsuba-requires c).After-split_of-split c.padded-pb.result (omega arith) ∙ size,
-      both (goal.at.karatsuba-requires c).After-split_of-split (goal.at.karatsuba-requires c).After-wide_zeros-c ∙ ap (◌*◌ 2) size,
-      clear_none c.split_of-split.result.leaf c.blank-t.result c.blank-t.ensures,
+      both (goal.at.karatsuba-requires c).After-split_of-split (goal.at.karatsuba-requires c).After-filled-c ∙ ap (◌*◌ 2) size,
+      clear_none c.split_of-split.result.leaf c.filled-t.result c.filled-t.ensures,
     )

@@ -48,27 +48,3 @@ returns c =
 
 pub loop-turn-init : goal.loop-turn-init
 loop-turn-init c = (omega arith, omega arith, omega arith, refl, omega arith, listing_start c.args.x (small (goal.at.loop-turn-init c).Start) _)
-
-pub overflow_cast-none : goal.overflow_cast-none
-overflow_cast-none c = let turn = found (goal.at.overflow_cast-none c).In-loop-turn in omega arith
-
-pub overflow_cast-out : goal.overflow_cast-out
-overflow_cast-out c = let turn = found (goal.at.overflow_cast-out c).In-loop-turn in omega arith
-
-pub overflow_add-out : goal.overflow_add-out
-overflow_add-out c = let turn = found (goal.at.overflow_add-out c).In-loop-turn in omega arith
-
-pub overflow_cast-out-in-loop-turn : goal.overflow_cast-out-in-loop-turn
-overflow_cast-out-in-loop-turn c = let turn = found (goal.at.overflow_cast-out-in-loop-turn c).In-loop-turn in omega arith
-
-pub overflow_cast-zeros : goal.overflow_cast-zeros
-overflow_cast-zeros c = let turn = found (goal.at.overflow_cast-zeros c).In-loop-turn in omega arith
-
-pub overflow_add-i : goal.overflow_add-i
-overflow_add-i c = let turn = found (goal.at.overflow_add-i c).In-loop-turn in omega arith
-
-pub overflow_sub-n : goal.overflow_sub-n
-overflow_sub-n c = let turn = found (goal.at.overflow_sub-n c).In-loop-turn in omega arith
-
-pub overflow_add-n : goal.overflow_add-n
-overflow_add-n c = let turn = found (goal.at.overflow_add-n c).In-loop-turn in omega arith

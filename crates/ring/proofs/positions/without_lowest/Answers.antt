@@ -2,7 +2,6 @@
 use mathlib.Core.Path.{◌≡◌}
 use Prim.Native.Nat.{◌-◌, ◌*◌, ◌/◌, ◌%◌, ◌^◌, ◌≤◌, ◌<◌}
 use native.Mathlib.Omega.{arith}
-use lib.Count.{trailing_le}
 use Rattle.ring.proofs.positions.Laws.{bit_off}
 use Rattle.ring.proofs.positions.without_lowest.Goals as goal
 use Rattle.ring.proofs.positions.without_lowest.Goals.{Start}
@@ -13,9 +12,6 @@ off : (c : Start) →
     ((1 - t / 64) * 2 ^ (t % 64) % 2 ^ 64 ≤ w) × (w ≡ 0 → w - (1 - t / 64) * 2 ^ (t % 64) % 2 ^ 64 ≡ 0)
     × (0 < w → w - (1 - t / 64) * 2 ^ (t % 64) % 2 ^ 64 ≡ w - 2 ^ t)
 off c = bit_off c.args.w c.args.zeros (omega arith) c.requires
-
-pub overflow_sub-result : goal.overflow_sub-result
-overflow_sub-result c = omega (arith, trailing_le 64 c.args.w, c.requires)
 
 pub overflow_sub-result-2 : goal.overflow_sub-result-2
 overflow_sub-result-2 c = (off (goal.at.overflow_sub-result-2 c).Start).0

@@ -6,4 +6,4 @@ use Rattle.ring.proofs.size.block.Goals as goal
 
 pub returns : goal.returns
 unfolding row
-returns c = ap (λ (l : Level). l.r) c.level_of-l.ensures
+returns c = ap (λ (l : Level). l.r) c.level_of.ensures

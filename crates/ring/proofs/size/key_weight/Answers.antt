@@ -6,4 +6,4 @@ use Rattle.ring.proofs.size.key_weight.Goals as goal
 
 pub returns : goal.returns
 unfolding row
-returns c = ap (λ (l : Level). l.d) c.level_of-l.ensures
+returns c = ap (λ (l : Level). l.d) c.level_of.ensures

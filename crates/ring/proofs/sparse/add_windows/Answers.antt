@@ -1,22 +1,15 @@
 -- `add_windows` adds word by word: before turn i the words below i have their windows, and the others are as they came.
 use mathlib.Core.Path.{◌≡◌, refl, sym, ap₂, ◌∙◌}
-use Prim.Native.Nat.{ℕ, ◌+◌, ◌*◌, ◌/◌, ◌<◌}
-use native.Mathlib.Nat.{not-suc-le-zero}
+use Prim.Native.Nat.{ℕ, ◌+◌, ◌*◌, ◌<◌}
 use native.Mathlib.Omega.{arith}
 use lib.Bits.{bit_xor}
-use lib.ListN.{length, get_or, length-set}
+use lib.ListN.{get_or, length-set}
 use Rattle.hashing.specs.Lists.{bit_at, bits}
 use Rattle.hashing.proofs.Words.{bits_at}
 use Rattle.ring.specs.Polynomials.{flip}
 use Rattle.ring.proofs.Packed.{bit-flip, fill_below, fill_above}
 use Rattle.ring.proofs.sparse.add_windows.Goals as goal
 use Rattle.ring.proofs.sparse.add_windows.Invariants.{summed}
-
-pub eight-requires : goal.eight-requires
-eight-requires c =
-    let was = c.loop-i in
-    let within : (m : ℕ) → m < 8 → get_or c.args.from m 0 / 64 + was.i + 1 < length c.args.d.now = λ m h. omega (arith, c.requires.1 m h) in
-    (within, c.requires.2)
 
 pub loop-i-preserved : goal.loop-i-preserved
 loop-i-preserved c =
@@ -33,12 +26,3 @@ loop-i-preserved c =
       fill_below was.y was.i word (summed y₀ given.d.now given.from) (omega arith) was.invariant.2 added,
       fill_above was.y was.i word (bits 64 y₀) was.invariant.3,
     )
-
-pub returns : goal.returns
-returns c =
-    let was = c.loop-i in
-    let all : was.i ≡ c.args.n = omega arith in
-    record { fact_1 = rw (← all) was.invariant.2; fact_2 = rw (← all) was.invariant.3 }
-
-pub loop-i-init : goal.loop-i-init
-loop-i-init c = (omega arith, refl, λ k below. absurd (not-suc-le-zero below), λ k past. refl)

@@ -1,5 +1,5 @@
 -- `extend` goes on with the period r: before turn j all words below j have it.
-use mathlib.Core.Path.{◌≡◌, refl, sym, ap, ◌∙◌}
+use mathlib.Core.Path.{◌≡◌, sym, ap, ◌∙◌}
 use Prim.Native.Nat.{ℕ, ◌+◌, ◌-◌, ◌*◌, ◌/◌, ◌%◌}
 use native.Mathlib.Nat.{mod-eq-sub-mod}
 use native.Mathlib.Omega.{arith}
@@ -30,6 +30,3 @@ returns c =
     let was = c.loop-j in
     let all : was.j ≡ 2 * (c.args.r / 64) + 2 = omega arith in
     record { fact_1 = rw (← all) was.invariant.3; fact_2 = was.invariant.4 }
-
-pub loop-j-init : goal.loop-j-init
-loop-j-init c = (omega arith, omega arith, refl, (λ a start. start), λ k past. refl)

@@ -1,10 +1,10 @@
 -- `next_eight`: m starts are in place.
-use mathlib.Core.Path.{◌≡◌, refl, ap, ◌∙◌}
+use mathlib.Core.Path.{refl, ap, ◌∙◌}
 use mathlib.Core.List.{List}
 use Prim.Native.Nat.{ℕ}
 use native.Mathlib.Omega.{arith}
 use lib.ListN.{set, replicate, length-set}
-use Rattle.hashing.proofs.Lists.{filled_none, filled_more, filled_all}
+use Rattle.hashing.proofs.Lists.{filled_none, filled_more}
 use Rattle.ring.proofs.sparse.next_eight.Goals as goal
 use Rattle.ring.proofs.sparse.next_eight.Invariants.{starts}
 
@@ -17,13 +17,6 @@ loop-m-preserved c =
       length-set l.o l.m v ∙ l.invariant.1,
       ap (λ (o : List ℕ). set o l.m v) l.invariant.2 ∙ filled_more l.m (starts given.from.now given.j) (replicate 8 0) 0 (omega arith),
     )
-
-pub returns : goal.returns
-returns c =
-    let l = c.loop-m in
-    let given = c.args in
-    let all : l.m ≡ 8 = omega arith in
-    l.invariant.2 ∙ rw all (filled_all 8 (starts given.from.now given.j) (replicate 8 0) refl)
 
 pub loop-m-init : goal.loop-m-init
 loop-m-init c = (omega arith, refl, filled_none (starts c.args.from.now c.args.j) (replicate 8 0))

@@ -1,9 +1,9 @@
--- `windows`: before turn i the first i windows of what stands in d are added; those past the last are empty.
-use mathlib.Core.Path.{◌≡◌, refl, sym, ap, ap₂, ◌∙◌}
+-- `windows`: before a pass the first 8 windows for each one before of what stands in d are added; those past the last are empty.
+use mathlib.Core.Path.{◌≡◌, sym, ap, ap₂, ◌∙◌}
 use mathlib.Core.Bool.{false}
 use mathlib.Core.List.{List}
 use mathlib.Core.Logic.{⊎_elim}
-use Prim.Native.Nat.{ℕ, ◌+◌, ◌≤◌, ◌<◌}
+use Prim.Native.Nat.{ℕ, ◌+◌, ◌*◌, ◌≤◌, ◌<◌}
 use native.Mathlib.Decide.{dec_lt}
 use native.Mathlib.Omega.{arith}
 use lib.ListN.{get_or}
@@ -18,11 +18,11 @@ use Rattle.ring.proofs.sparse.Laws.{window_of}
 use Rattle.ring.proofs.sparse.windows.Goals as goal
 use Rattle.ring.proofs.sparse.windows.Invariants.{added}
 
-pub loop-i-init : goal.loop-i-init
+pub loop-pass-init : goal.loop-pass-init
 unfolding parity
-loop-i-init c =
-    let none : (k : ℕ) → bits 64 c.zeros-y.result k ≡ false = λ k. ap (λ (p : Poly). p k) (ap (bits 64) c.zeros-y.ensures ∙ bits-zeros words) in
-    (refl, omega arith, omega arith, (λ k past. none k), λ k below. none k)
+loop-pass-init c =
+    let none : (k : ℕ) → bits 64 c.filled-y.result k ≡ false = λ k. ap (λ (p : Poly). p k) (ap (bits 64) c.filled-y.ensures ∙ bits-zeros words) in
+    (omega arith, (λ k past. none k), λ k below. none k)
 
 -- each window lies within d
 within : (r count : ℕ) (from : List ℕ) → r < word_bits → ((i : ℕ) → i < count → Start r (get_or from i 0))
@@ -35,38 +35,38 @@ within r count from small starts rest i room = go (dec_lt i count)
 
 pub add_windows-requires : goal.add_windows-requires
 add_windows-requires c =
-    let was = c.loop-i in
+    let was = c.loop-pass in
     let from = c.args.from.now in (
       omega arith,
       (λ m h.
-          let at = from_table 8 (λ m. get_or from (was.i + m) 0) 0 c.next_eight.ensures m h in
-          let inside = within c.args.r c.args.count from (omega arith) c.requires.fact_3.0 c.requires.fact_3.1 (was.i + m) (omega arith) in
+          let at = from_table 8 (λ m. get_or from ((8 * was.pass) + m) 0) 0 c.next_eight.ensures m h in
+          let inside = within c.args.r c.args.count from (omega arith) c.requires.fact_3.0 c.requires.fact_3.1 ((8 * was.pass) + m) (omega arith) in
           omega arith),
       omega arith,
     )
 
-pub loop-i-preserved : goal.loop-i-preserved
-loop-i-preserved c =
-    let was = c.loop-i in
+pub loop-pass-preserved : goal.loop-pass-preserved
+loop-pass-preserved c =
+    let was = c.loop-pass in
     let held = c.twice-d in
     let from = c.args.from.now in
     let picked = c.next_eight in
-    let summed = c.add_windows.ensures in (
-      omega arith,
-      omega arith,
-      c.add_windows.auto.y ∙ was.invariant.2,
-      (λ k past. summed.fact_2 k past ∙ was.invariant.3 k past),
+    let summed = c.add_windows.ensures in
+    let next : 8 * was.pass + 8 ≡ 8 * (was.pass + 1) = omega arith in (
+      c.add_windows.auto.y ∙ was.invariant.0,
+      (λ k past. summed.fact_2 k past ∙ was.invariant.1 k past),
       λ k below.
           summed.fact_1 k below
-          ∙ ap₂ flip (was.invariant.4 k below)
-          (parity_ext 8 {f = λ m. bits 64 held.result (get_or picked.result m 0 + k)} {g = λ m. added held.result from k (was.i + m)}
-          (λ m h. ap (λ (at : ℕ). bits 64 held.result (at + k)) (from_table 8 (λ m. get_or from (was.i + m) 0) 0 picked.ensures m h)))
-          ∙ sym (parity-split was.i 8 (added held.result from k)),
+          ∙ ap₂ flip (was.invariant.2 k below)
+          (parity_ext 8 {f = λ m. bits 64 held.result (get_or picked.result m 0 + k)} {g = λ m. added held.result from k ((8 * was.pass) + m)}
+          (λ m h. ap (λ (at : ℕ). bits 64 held.result (at + k)) (from_table 8 (λ m. get_or from ((8 * was.pass) + m) 0) 0 picked.ensures m h)))
+          ∙ sym (parity-split (8 * was.pass) 8 (added held.result from k))
+          ∙ ap (λ (n : ℕ). parity n (added held.result from k)) next,
     )
 
 pub returns : goal.returns
 returns c =
-    let was = c.loop-i in
+    let was = c.loop-pass in
     let held = c.twice-d in
     let r = c.args.r in
     let count = c.args.count in
@@ -74,16 +74,10 @@ returns c =
     let x = bits 64 c.args.x in record {
       fact_1 = c.cut.ensures.fact_1;
       fact_2 = λ k below.
-          c.cut.ensures.fact_2 k below ∙ was.invariant.4 k (omega arith)
-          ∙ parity_past count was.i (added held.result from k) (omega arith)
+          c.cut.ensures.fact_2 k below ∙ was.invariant.2 k (omega arith)
+          ∙ parity_past count (8 * was.pass) (added held.result from k) (omega arith)
           (λ i past more.
           ap (λ (at : ℕ). bits 64 held.result (at + k)) (c.requires.fact_3.1 i past (omega arith)) ∙ held.ensures.fact_2 (empty_window + k) (omega arith))
           ∙ parity_ext count
           (λ i more. window_of r x (bits 64 held.result) (get_or from i 0) k (omega arith) (c.requires.fact_3.0 i more) below held.ensures.fact_1 held.ensures.fact_2);
     }
-
-pub twice-d-requires : goal.twice-d-requires
-twice-d-requires c = record { fact_1 = omega arith; fact_2 = c.requires.fact_2 }
-
-pub cut-requires : goal.cut-requires
-cut-requires c = record { fact_1 = omega arith; fact_2 = c.loop-i.invariant.3 }

@@ -9,13 +9,6 @@ use Rattle.ring.proofs.Packed.{fill_below, fill_above}
 use Rattle.ring.proofs.square.Laws.{lower_word}
 use Rattle.ring.proofs.square.doubled.Goals as goal
 
-pub returns-then-q-eq1 : goal.returns-then-q-eq1
-returns-then-q-eq1 c =
-    let pairs = c.pairs-y in
-    let q = c.args.q in
-    let all : 2 * ((q + 1) / 2) ≡ q + 1 = omega arith in
-    rw all at pairs.ensures
-
 pub returns : goal.returns
 returns c =
     let shows = c.shown in

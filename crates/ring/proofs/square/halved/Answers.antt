@@ -71,17 +71,3 @@ loop-j-init c =
       first = record { below = omega arith; inverts = mod-eq_of_lt (omega arith) };
       second = record { below = omega arith; inverts = half_unit c.args.r (omega arith) (omega arith) };
     }
-
-pub returns : goal.returns
-returns c =
-    let was = c.loop-j in
-    let so = was.invariant in
-    let none : was.j ≡ 0 = omega arith in
-    let all : so.low ≡ c.args.k = omega (arith, so.all, ap (λ (n : ℕ). so.value * n) none ∙ mul-zero so.value) in
-    (so.first.below, rw all at so.first.inverts)
-
-pub times-h-requires : goal.times-h-requires
-times-h-requires c = let so = c.loop-j.invariant in (so.first.below, so.second.below, omega arith)
-
-pub times-p-requires : goal.times-p-requires
-times-p-requires c = let so = c.loop-j.invariant in (so.second.below, so.second.below, omega arith)

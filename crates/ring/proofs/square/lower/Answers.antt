@@ -1,7 +1,5 @@
 -- `lower` takes the low 32 bits of both.
 use mathlib.Core.Path.{◌∙◌}
-use native.Mathlib.Nat.{mod-lt}
-use lib.Dec.{lit<}
 use Rattle.hashing.proofs.Words.{bit-mod}
 use Rattle.ring.proofs.square.lower.Goals as goal
 
@@ -9,6 +7,3 @@ pub returns : goal.returns
 returns c = λ k below.
     let spread = c.alternate.ensures k below in
     (spread.0 ∙ bit-mod c.args.x 32 k below, spread.1 ∙ bit-mod c.args.h 32 k below)
-
-pub alternate-requires : goal.alternate-requires
-alternate-requires c = (mod-lt c.args.x (lit< tt), mod-lt c.args.h (lit< tt))

@@ -5,7 +5,7 @@ use Prim.Native.Nat.{ℕ, ◌+◌, ◌*◌, ◌%◌, ◌<◌}
 use native.Mathlib.Nat.{mod-lt, mod-eq_of_lt, mul-zero, mul-one, zero-mod}
 use native.Mathlib.Omega.{arith}
 use lib.ListN.{set, replicate, length-set}
-use Rattle.hashing.proofs.Lists.{filled_none, filled_more, filled_all}
+use Rattle.hashing.proofs.Lists.{filled_none, filled_more}
 use Rattle.ring.proofs.square.Laws.{circle_on}
 use Rattle.ring.proofs.square.offsets.Goals as goal
 
@@ -25,13 +25,6 @@ loop-e-preserved c =
   where
     step : (r n e : ℕ) → n < r → ((n * e) % r + n) % r ≡ (n * (e + 1)) % r
     step r n e low = ap (λ (p : ℕ). ((n * e) % r + p) % r) (rw (mul-one n) (sym (mod-eq_of_lt low))) ∙ circle_on r n e 1
-
-pub returns : goal.returns
-returns c =
-    let was = c.loop-e in
-    let args = c.args in
-    let all : was.e ≡ 64 = omega arith in
-    was.invariant.4 ∙ rw all (filled_all 64 (λ j. (args.n * j) % args.r) (replicate 64 0) refl)
 
 pub loop-e-init : goal.loop-e-init
 loop-e-init c = (omega arith, refl, omega arith, rw (mul-zero, zero-mod) refl, filled_none (λ j. (c.args.n * j) % c.args.r) (replicate 64 0))

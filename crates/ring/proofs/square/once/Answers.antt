@@ -21,6 +21,3 @@ returns c =
     (λ k below.
     c.cut.ensures.fact_2 k below ∙ c.doubled.ensures.fact_2 k (omega arith) ∙ ap (λ (p : Poly). p (source middle k)) c.padded-d.ensures
     ∙ ap x (sym (half_place r k (omega arith) below)) ∙ sym (spread_at r pos 2 middle (half_unit r (omega arith) (omega arith)) x k below))
-
-pub cut-requires : goal.cut-requires
-cut-requires c = record { fact_1 = omega arith; fact_2 = c.doubled.ensures.fact_1 }

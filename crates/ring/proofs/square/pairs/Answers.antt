@@ -16,7 +16,7 @@ pub loop-i-init : goal.loop-i-init
 loop-i-init c = (
   omega arith,
   omega arith,
-  λ k past. ap (λ (p : ℕ → Bool). p k) (ap (bits 64) c.zeros-y.ensures ∙ bits-zeros words),
+  λ k past. ap (λ (p : ℕ → Bool). p k) (ap (bits 64) c.filled-y.ensures ∙ bits-zeros words),
   λ k below. absurd (not-suc-le-zero below),
 )
 
@@ -41,9 +41,3 @@ loop-i-preserved c =
       (λ k past. above k (omega arith)),
       λ k below. two k (omega arith),
     )
-
-pub returns : goal.returns
-returns c =
-    let was = c.loop-i in
-    let all : was.i ≡ c.args.n = omega arith in
-    record { fact_1 = rw (← all) was.invariant.2; fact_2 = rw (← all) was.invariant.3 }

@@ -23,7 +23,7 @@ loop-i-init c = (
   omega arith,
   rw (mul-zero c.args.n, zero-mod) refl,
   omega arith,
-  λ k past. ap (λ (p : ℕ → Bool). p k) (ap (bits 64) c.zeros-y.ensures ∙ bits-zeros words),
+  λ k past. ap (λ (p : ℕ → Bool). p k) (ap (bits 64) c.filled-y.ensures ∙ bits-zeros words),
   λ a held k below. absurd (not-suc-le-zero below),
 )
 
@@ -39,12 +39,6 @@ gather-requires c =
         λ e below. rw (offset r n all e below) (mod-lt (n * e) (omega arith)),
       );
     }
-
-pub moved-base-requires : goal.moved-base-requires
-moved-base-requires c =
-    let given = c.args in
-    let low : (64 * given.n) % given.r < given.r = mod-lt (64 * given.n) (omega arith) in
-    omega arith
 
 pub loop-i-preserved : goal.loop-i-preserved
 loop-i-preserved c =

@@ -7,6 +7,3 @@ use Rattle.ring.proofs.square.repeated.Given as goal
 
 abbrev pub invariant-loop-j : goal.invariant-loop-j
 invariant-loop-j l = (0 < l.j) × (l.j ≤ l.k) × (bits 64 l.y ≡ spread l.r (2 ^ (l.j - 1)) (bits 64 l.initial.y))
-
-abbrev pub decreases-loop-j : goal.decreases-loop-j
-decreases-loop-j l = l.k - l.j

@@ -44,14 +44,3 @@ returns-then-ones-le-MOST_D c =
     c.sparse.ensures
     ∙ ap (λ (a : Poly). mul r a (bits 64 c.args.x)) (ap (terms r) c.rising-list.ensures ∙ terms-rising r c.requires.fact_2.1)
     ∙ mul_comm r y (bits 64 c.args.x)
-
-pub multiply-requires : goal.multiply-requires
-multiply-requires c =
-    record {
-      fact_1 = (c.requires.fact_1.0, c.requires.fact_1.2);
-      fact_2 = c.requires.fact_2.0;
-      fact_3 = c.requires.fact_2.1;
-    }
-
-pub returns : goal.returns
-returns c = c.multiply.ensures

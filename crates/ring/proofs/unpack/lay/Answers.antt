@@ -4,7 +4,6 @@ use mathlib.Core.List.{List}
 use mathlib.Core.Logic.{inl, inr}
 use Prim.Native.Nat.{ℕ, ◌+◌, ◌-◌, ◌*◌, ◌<◌}
 use native.Mathlib.Decide.{dec_lt}
-use native.Mathlib.Nat.{not-suc-le-zero}
 use native.Mathlib.Omega.{arith}
 use lib.ListN.{get_or}
 use Rattle.hashing.specs.Lists.{bit_at, bits}
@@ -33,12 +32,3 @@ loop-i-preserved c =
         let place : 64 * i + (k - 64 * i) ≡ k = omega arith in
         ap (λ (j : ℕ). get_or next j 0) (sym place) ∙ word (k - 64 * i) (omega arith)
         ∙ ap bit (sym (bits_at 64 x i (k - 64 * i) refl (omega arith)) ∙ ap (bits 64 x) place)
-
-pub returns : goal.returns
-returns c =
-    let was = c.loop-i in
-    let all : was.i ≡ c.args.n = omega arith in
-    record { by_index = rw (← all) was.invariant.2; by_index_2 = rw (← all) was.invariant.3 }
-
-pub loop-i-init : goal.loop-i-init
-loop-i-init c = (omega arith, refl, (λ k below. absurd (not-suc-le-zero below)), λ k past. refl)

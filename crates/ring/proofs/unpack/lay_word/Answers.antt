@@ -1,10 +1,9 @@
 -- `lay_word` goes byte by byte: before turn j the bits of j bytes are laid out.
-use mathlib.Core.Path.{◌≡◌, refl, ap, ◌∙◌}
+use mathlib.Core.Path.{◌≡◌, ap, ◌∙◌}
 use mathlib.Core.List.{List}
 use mathlib.Core.Logic.{inl, inr, ⊎_elim}
 use Prim.Native.Nat.{ℕ, ◌+◌, ◌-◌, ◌*◌, ◌/◌, ◌%◌, ◌^◌, ◌≤◌, ◌<◌}
 use native.Mathlib.Decide.{dec_lt}
-use native.Mathlib.Nat.{not-suc-le-zero}
 use native.Mathlib.Omega.{arith}
 use lib.ListN.{length, get_or}
 use lib.Seq.{sets}
@@ -44,12 +43,3 @@ loop-j-preserved c =
             let back : 8 * j + (k - 8 * j) ≡ k = omega arith in
             ap (λ (i : ℕ). get_or (sets out (at + 8 * j) (tab 8 f)) i 0) place
             ∙ sets_in f out (at + 8 * j) 8 (k - 8 * j) room (omega arith) ∙ eight (k - 8 * j) (omega arith) ∙ ap (λ (i : ℕ). bit (bit_at w i)) back
-
-pub returns : goal.returns
-returns c =
-    let was = c.loop-j in
-    let all : was.j ≡ 8 = omega arith in
-    record { by_index = rw all at was.invariant.2; by_index_2 = rw all at was.invariant.3 }
-
-pub loop-j-init : goal.loop-j-init
-loop-j-init c = (omega arith, refl, (λ k below. absurd (not-suc-le-zero below)), λ k away. refl)

@@ -1,11 +1,8 @@
 -- `words::end_word` meets its contract: the bytes from m on are taken. Assumes nothing.
 use mathlib.Core.Path.{◌≡◌}
-use Prim.Native.Nat.{ℕ, ◌+◌, ◌-◌, ◌*◌, ◌≤◌, ◌<◌}
+use Prim.Native.Nat.{ℕ, ◌+◌, ◌-◌, ◌*◌, ◌<◌}
 use Rattle.hashing.specs.Lists.{bit_at, bits}
 use Rattle.ring.proofs.words.end_word.Given as goal
 
 abbrev pub invariant-loop-m : goal.invariant-loop-m
-invariant-loop-m l = (l.m ≤ 8) × ((e : ℕ) → e < 64 - 8 * l.m → bit_at l.w e ≡ bits 8 l.b (8 * (l.at + l.m) + e))
-
-abbrev pub decreases-loop-m : goal.decreases-loop-m
-decreases-loop-m l = l.m
+invariant-loop-m l = (e : ℕ) → e < 64 - 8 * l.m → bit_at l.w e ≡ bits 8 l.b (8 * (l.at + l.m) + e)

@@ -26,4 +26,4 @@ returns c =
     (λ k h. bits_out 8 b k (lit< tt) (omega arith))
 
 pub loop-i-init : goal.loop-i-init
-loop-i-init c = (omega arith, done_none (bits 8 c.args.bytes.now) c.zeros-a.result c.zeros-a.ensures)
+loop-i-init c = (omega arith, done_none (bits 8 c.args.bytes.now) c.filled-a.result c.filled-a.ensures)

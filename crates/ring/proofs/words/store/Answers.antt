@@ -1,9 +1,9 @@
 -- `words::store` meets its contract: after the whole words i bytes are written. Assumes nothing.
 use mathlib.Core.Path.{◌≡◌, refl, ap₂, ◌∙◌}
 use mathlib.Core.List.{List}
-use Prim.Native.Nat.{ℕ, ◌+◌, ◌*◌, ◌/◌, ◌%◌, ◌^◌}
+use Prim.Native.Nat.{ℕ, ◌+◌, ◌*◌}
 use native.Mathlib.Omega.{arith}
-use lib.ListN.{length, get_or, set, length-set}
+use lib.ListN.{length, set, length-set}
 use Rattle.hashing.specs.Lists.{bits}
 use Rattle.hashing.proofs.Lists.{filled_more, filled_again, filled_all}
 use Rattle.ring.specs.Bytes.{number, list_of}
@@ -15,10 +15,10 @@ loop-i-preserved c =
     let l = c.loop-i in
     let a = c.args in
     let words = c.store_words.new.out in
-    let v = get_or a.a (l.i / 8) 0 / 2 ^ (8 * (l.i % 8)) % 256 in (
+    let v = c.byte_of.result in (
       omega arith,
       length-set l.out l.i v ∙ l.invariant.1,
-      ap₂ (λ (out : List ℕ) (y : ℕ). set out l.i y) l.invariant.2 (byte_at a.a l.i)
+      ap₂ (λ (out : List ℕ) (y : ℕ). set out l.i y) l.invariant.2 (c.byte_of.ensures ∙ byte_at a.a l.i)
           ∙ filled_more l.i (λ i. number 8 (λ e. bits 64 a.a (i * 8 + e))) words 0 (omega arith),
     )
 
@@ -37,6 +37,3 @@ returns c =
     let words = c.store_words in
     let all : l.i ≡ length a.out.now = omega (arith, words.auto.out) in
     l.invariant.2 ∙ rw all (filled_all (length a.out.now) (λ i. number 8 (λ e. bits 64 a.a (i * 8 + e))) words.new.out words.auto.out)
-
-pub shape_of-out : goal.shape_of-out
-shape_of-out c = c.loop-i.invariant.1 ∙ c.store_words.auto.out

@@ -1,7 +1,7 @@
 -- `words::store_words` meets its contract: i words are written. Assumes nothing.
 use mathlib.Core.Path.{◌≡◌}
 use mathlib.Core.List.{List, ◌++◌}
-use Prim.Native.Nat.{ℕ, ◌+◌, ◌-◌, ◌*◌, ◌≤◌}
+use Prim.Native.Nat.{ℕ, ◌+◌, ◌*◌, ◌≤◌}
 use lib.ListN.{length, drop}
 use Rattle.hashing.specs.Lists.{tab, bits}
 use Rattle.ring.specs.Bytes.{number}
@@ -13,6 +13,3 @@ byte a k = number 8 (λ e. bits 64 a (k * 8 + e))
 
 abbrev pub invariant-loop-i : goal.invariant-loop-i
 invariant-loop-i l = (l.i ≤ l.n) × (length l.out ≡ length l.initial.out) × (l.out ≡ tab (8 * l.i) (byte l.a) ++ drop (8 * l.i) l.initial.out)
-
-abbrev pub decreases-loop-i : goal.decreases-loop-i
-decreases-loop-i l = l.n - l.i

