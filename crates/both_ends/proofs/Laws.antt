@@ -6,11 +6,11 @@ use Prim.Native.Nat.{ℕ, ◌≤◌}
 use native.Mathlib.Omega.{arith}
 use borrow.Author.Tests.{not-false}
 use lib.Dec.{lit<}
-use lib.ListN.{length, replicate, length-append}
+use lib.ListN.{length, length-append}
 use Rattle.hashing.specs.Answers.{first_of, settle}
 use Rattle.hashing.specs.Answers.Outcome.{gives}
 use Rattle.hashing.specs.Lists.{bits}
-use Rattle.hashing.proofs.Answers.{Numbered, agree, clear, done, refused, first_after, one_outcome, one_output, two_outputs}
+use Rattle.hashing.proofs.Answers.{Numbered, agree, clear, first_after, one_outcome, one_output, two_outputs}
 use Rattle.ring.specs.Levels.{known, level_of, message_bytes, seed_bytes, ciphertext_bytes}
 use Rattle.ring.specs.Polynomials.{Poly}
 use Rattle.ring.proofs.Bools.{both_false}
@@ -25,7 +25,7 @@ use Rattle.exchange.specs.Scheme.{key_digest, hash_k, public_of, private_of, wra
 use Rattle.exchange.proofs.Demand.{wrapped_well_formed}
 use Rattle.exchange.proofs.Judged.{MakingClear, making_none, making_numbered}
 use Rattle.exchange.proofs.Pairs.{made_of, wraps, opens, demand_3}
-use Rattle.both_ends.specs.BothEnds.{digest_of, sent_to, both_ends_reasons, both_ends_says, BothEndsPromise, Finds, Agree}
+use Rattle.both_ends.specs.BothEnds.{digest_of, sent_to, both_ends_reasons, BothEndsPromise, Finds, Agree}
 
 -- a front is not longer than the whole
 pub front_fits : (xs ys : List ℕ) {n : ℕ} → length xs ≡ n → n ≤ length (xs ++ ys)
@@ -56,22 +56,14 @@ module _ {level : ℕ} {seed m : List ℕ} {room_sent room_opened : ℕ} where
         opened_room = agree _ _ two.1;
       }
 
--- what is to be given then
+-- then what shows in the work counts
 module _ (level : ℕ) (seed m : List ℕ) (room_sent room_opened : ℕ) (none : first_of (both_ends_reasons level seed m room_sent room_opened) ≡ 0) where
   numbered : Numbered (both_ends_reasons level seed m room_sent room_opened)
   unfolding both_ends_reasons
   numbered = (lit< tt, (lit< tt, tt))
 
-  pub no_ends : {number : ℕ} → number ≡ first_of (work_reasons (level_of level) seed) → (number ≡ 0 → ⊥)
-      → both_ends_says level seed m room_sent room_opened ≡ gives number (replicate room_sent 0 ∷ replicate room_opened 0 ∷ [])
-  unfolding both_ends_says
-  no_ends first some = refused _ _ (first ∙ sym (first_after _ _ numbered none)) some
-
-  pub ends : first_of (work_reasons (level_of level) seed) ≡ 0 →
-      let c = sent_to (level_of level) seed m in
-      both_ends_says level seed m room_sent room_opened ≡ gives 0 (hash_k m c ∷ opened bgf (level_of level) (private_of (level_of level) seed) c ∷ [])
-  unfolding both_ends_says
-  ends clear = done _ _ (first_after _ _ numbered none ∙ clear)
+  pub later_work : first_of (work_reasons (level_of level) seed) ≡ first_of (both_ends_reasons level seed m room_sent room_opened ++ work_reasons (level_of level) seed)
+  later_work = sym (first_after _ _ numbered none)
 
 -- once it is judged, key making answers with the number that shows in the work
 module _ (level : ℕ) (seed public private : List ℕ) (made : ℕ) (judged : MakingClear level seed (length public) (length private))

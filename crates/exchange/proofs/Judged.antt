@@ -1,14 +1,16 @@
 -- What it says that a judge finds nothing, entry by entry, in both directions. Assumes nothing.
-use mathlib.Core.Path.{◌≡◌, refl, sym, ◌∙◌}
-use mathlib.Core.Bool.{Bool, true, false, not, ◌&&◌, ◌||◌}
-use mathlib.Core.List.{List, [], ◌∷◌}
-use Prim.Native.Nat.{ℕ, zero, suc, ◌≤◌}
+use mathlib.Core.Path.{◌≡◌, refl, sym, ap, ◌∙◌}
+use mathlib.Core.Bool.{Bool, true, false, not, ◌||◌, true≢false, false≢true}
+use mathlib.Core.List.{List, [], ◌∷◌, ◌++◌}
+use Prim.Native.Nat.{ℕ, ◌≤◌}
 use borrow.Author.Tests.{eq-eqb, ne_eqb, ltb-false, not-false}
-use native.Mathlib.Omega.{arith}
-use lib.Dec.{eqb, ltb, lit<}
+use lib.Dec.{ltb, lit<}
 use lib.ListN.{length, take}
-use Rattle.hashing.specs.Answers.{first_of, differs}
-use Rattle.hashing.proofs.Answers.{Numbered, agree, clear}
+use Rattle.hashing.specs.Answers.{Reason, first_of, differs}
+use Rattle.std.specs.Prelude.{Result, Ok, Err, is_err, IsErrAnd, IfOk}
+use Rattle.hashing.specs.Refusals.{number, answer}
+use Rattle.hashing.specs.declared.refusal.Refusal.{Refusal}
+use Rattle.hashing.proofs.Answers.{Numbered, agree, clear, numbered, first_stays, all_clear}
 use Rattle.ring.specs.Bytes.{pad_set}
 use Rattle.ring.specs.Levels.{Level, known, level_of, message_bytes, seed_bytes, poly_bytes, ciphertext_bytes, private_bytes}
 use Rattle.ring.proofs.Bools.{both_false}
@@ -18,9 +20,35 @@ use Rattle.exchange.specs.Doors.{report_bytes, making_door_reasons}
 use Rattle.exchange.specs.Promises.{error_reasons, making_reasons, fair_reasons, wrapping_reasons, content_reasons, decoding_reasons, opening_reasons}
 
 -- lengths that are right
-fits : (a b : ℕ) → a ≡ b → differs a b ≡ false
+pub fits : (a b : ℕ) → a ≡ b → differs a b ≡ false
 unfolding differs
 fits a b same = rw (eq-eqb a b same)
+
+-- and lengths that are wrong
+pub misses : (a b : ℕ) → (a ≡ b → ⊥) → differs a b ≡ true
+unfolding differs
+misses a b other = rw (ne_eqb a b other)
+
+-- the refusal that `?` hands on
+pub hands_on : {A : Type 0} {n : ℕ} (handed : Result A Refusal) (refusal : Refusal) → IsErrAnd handed (λ (x : Refusal). x ≡ refusal)
+    → number refusal ≡ n → answer handed ≡ n
+hands_on (Ok value) refusal never is = absurd never
+hands_on (Err other) refusal same is = ap number same ∙ is
+
+-- what a test tells of a result
+pub failed : {A : Type 0} (outcome : Result A Refusal) → is_err outcome ≡ true → (refusal : Refusal) × (outcome ≡ Err refusal)
+failed (Ok value) never = absurd (false≢true never)
+failed (Err refusal) so = (refusal, refl)
+
+pub got : {A : Type 0} {P : A → Type 0} (outcome : Result A Refusal) → is_err outcome ≡ false → IfOk outcome P
+    → (value : A) × (outcome ≡ Ok value) × P value
+got (Ok value) so holds = (value, refl, holds)
+got (Err refusal) never holds = absurd (true≢false never)
+
+-- a refusal that comes first stays so where the work may show one more
+pub refuses_first : (before rest : List Reason) (refusal : Refusal) → number refusal ≡ first_of before
+    → number refusal ≡ first_of (before ++ rest)
+refuses_first before rest refusal first = first ∙ sym (first_stays before rest (λ none. numbered refusal (first ∙ none)))
 
 -- H
 pub record ErrorClear (level : ℕ) (m : List ℕ) (room0 room1 : ℕ) : Type 0 where
@@ -96,13 +124,10 @@ unfolding fair_reasons
 fair_numbered level count room = (lit< tt, (lit< tt, tt))
 
 -- the door of key making: 2 for the report's length, where the entry finds nothing
-unfoldable pub later : ℕ → Bool → ℕ
-later first wrong = elim (eqb first 0 && wrong) [ true ↦ 2 | false ↦ first ]
-
 module _ (level : ℕ) (seed : List ℕ) (room_public room_private room_report : ℕ) where
   pub making_door_first : first_of (making_door_reasons level seed room_public room_private room_report)
-      ≡ later (first_of (making_reasons level seed room_public room_private)) (differs room_report report_bytes)
-  unfolding making_door_reasons making_reasons first_of later
+      ≡ first_of (making_reasons level seed room_public room_private ++ (record { applies = differs room_report report_bytes; number = 2 } ∷ []))
+  unfolding making_door_reasons making_reasons first_of
   making_door_first =
       go (not (known level))
       (differs (length seed) seed_bytes || differs room_public (poly_bytes (level_of level)) || differs room_private (private_bytes (level_of level)))
@@ -110,7 +135,7 @@ module _ (level : ℕ) (seed : List ℕ) (room_public room_private room_report :
     where
       go : (unknown wrong report : Bool)
           → first_of (record { applies = unknown; number = 1 } ∷ record { applies = wrong || report; number = 2 } ∷ [])
-          ≡ later (first_of (record { applies = unknown; number = 1 } ∷ record { applies = wrong; number = 2 } ∷ [])) report
+          ≡ first_of (record { applies = unknown; number = 1 } ∷ record { applies = wrong; number = 2 } ∷ record { applies = report; number = 2 } ∷ [])
       go true wrong report = refl
       go false true report = refl
       go false false true = refl
@@ -118,15 +143,9 @@ module _ (level : ℕ) (seed : List ℕ) (room_public room_private room_report :
 
   pub making_door_clear : first_of (making_door_reasons level seed room_public room_private room_report) ≡ 0
       → (first_of (making_reasons level seed room_public room_private) ≡ 0) × (room_report ≡ report_bytes)
-  unfolding later
   making_door_clear none =
-      let is = go (first_of (making_reasons level seed room_public room_private)) (differs room_report report_bytes) (sym making_door_first ∙ none) in
-      (is.0, agree _ _ is.1)
-    where
-      go : (first : ℕ) (wrong : Bool) → later first wrong ≡ 0 → (first ≡ 0) × (wrong ≡ false)
-      go zero true e = absurd (omega arith)
-      go zero false e = (refl, refl)
-      go (suc first) wrong e = absurd (omega (arith, rw (ne_eqb (suc first) 0 (λ h. omega arith), later) at e))
+      let is = all_clear _ _ (making_numbered _ _ _ _) (sym making_door_first ∙ none) in
+      (is.0, agree _ _ (clear _ _ (lit< tt) is.1).0)
 
   pub making_door_numbered : Numbered (making_door_reasons level seed room_public room_private room_report)
   unfolding making_door_reasons

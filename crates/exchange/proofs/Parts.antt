@@ -42,3 +42,10 @@ no_bytes r n long =
     (λ i below.
     let within : i < byte_length r = rw (length-tab (byte_length r) none) at below in
     get_or-tab (byte_length r) none 0 i within ∙ sym (get_or-replicate (byte_length r) i 0 0 within)))
+
+-- a blank array's length, and its front's
+pub blank_long : (n : ℕ) → length (replicate {A = ℕ} n 0) ≡ n
+blank_long n = length-replicate n 0
+
+pub blank_front : (n room : ℕ) → n ≤ room → length (take n (replicate {A = ℕ} room 0)) ≡ n
+blank_front n room fits = length-take-le n (replicate {A = ℕ} room 0) (omega (arith, blank_long room))

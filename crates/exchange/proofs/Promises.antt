@@ -6,13 +6,15 @@ use mathlib.Core.List.{List, [], ◌∷◌}
 use Prim.Native.Nat.{ℕ}
 use native.Mathlib.Omega.{arith}
 use lib.ListN.{length}
+use Rattle.std.proofs.Common.{Result}
 use Rattle.hashing.specs.Answers.{Reason, Output, differs, first_of, settle}
 use Rattle.hashing.specs.Answers.Outcome.{gives}
+use Rattle.hashing.specs.declared.refusal.Refusal.{Refusal}
 use Rattle.hashing.proofs.Answers.{one_output, two_outputs, three_outputs, one_number, two_numbers}
 use Rattle.ring.specs.Levels.{known, level_of, seed_bytes, poly_bytes, private_bytes}
 use Rattle.ring.specs.Polynomials.{has_inverse}
 use Rattle.exchange.specs.declared.keys.KeyCounts.{KeyCounts}
-use Rattle.exchange.specs.declared.record.Reading.{Reading}
+use Rattle.exchange.specs.declared.record.Record.{Record}
 use Rattle.exchange.specs.Doors.{MakeKeyDoorPromise}
 use Rattle.exchange.specs.Promises.{ErrorOfPromise, ErrorCountPromise, MakeKeyPromise, making_reasons, work_reasons, make_key_says, counts_of, KeyCountPromise, FairPromise, FairCountPromise, WrapPromise, DecodePromise, RoundsPromise, OpenPromise}
 use Rattle.exchange.specs.Records.{RecordPromise}
@@ -105,6 +107,6 @@ pub open_just_one : (level : ℕ) (key c : List ℕ) (room_key : ℕ) {r r' : �
     → (r ≡ r') × (session_key ≡ session_key')
 open_just_one level key c room_key = one_output
 
--- the reader answers by an enum: one outcome, and so one reading
-pub read_record_just_one : (bytes : List ℕ) (one other : Reading) → RecordPromise bytes one → RecordPromise bytes other → one ≡ other
+-- one outcome, and so one reading
+pub read_record_just_one : (bytes : List ℕ) (one other : Result Record Refusal) → RecordPromise bytes one → RecordPromise bytes other → one ≡ other
 read_record_just_one bytes one other p q = outcome_of-one one other (p ∙ sym q)

@@ -1,13 +1,15 @@
 -- What the public entries of this crate promise, for all input: document 01's numbers down the column, and the value of each output
 -- where none applies. Inputs are lists of bytes; `room` is an output's actual length. Each entry has its reasons, which its judge looks
 -- at before anything is written, its outcome, and its promise on what it answers and leaves. Assumes nothing.
-use Rattle.std.specs.Prelude.{◌≡◌, not, ◌||◌, List, [], ◌∷◌, ◌++◌, ℕ, ltb, length, take}
+use Rattle.std.specs.Prelude.{◌≡◌, not, ◌||◌, List, [], ◌∷◌, ◌++◌, ℕ, Result, Ok, Err, ltb, length, take}
 use Rattle.hashing.specs.Answers.{Reason, Outcome, differs, settle, reported}
 use Rattle.hashing.specs.Answers.Outcome.{gives}
 use Rattle.hashing.specs.Lists.{bits}
+use Rattle.hashing.specs.declared.refusal.Refusal.{Refusal}
 use Rattle.ring.specs.Bytes.{bytes_of, pad_set}
 use Rattle.ring.specs.Levels.{Level, known, level_of, message_bytes, seed_bytes, poly_bytes, ciphertext_bytes, private_bytes}
 use Rattle.ring.specs.Polynomials.{has_inverse, support}
+use Rattle.exchange.specs.declared.fair.FairCounts.{FairCounts}
 use Rattle.exchange.specs.declared.keys.KeyCounts.{KeyCounts}
 use Rattle.exchange.specs.decoder.Decoder.{bgf, failed}
 use Rattle.exchange.specs.decoder.PrivateKey.{secret, good_key}
@@ -68,6 +70,11 @@ MakeKeyPromise level seed room_public room_private r public private =
 abbrev pub counts_of : KeyCounts → List ℕ
 counts_of counts = counts.used0 ∷ counts.passed0 ∷ counts.used1 ∷ counts.passed1 ∷ []
 
+-- "0 on a refusal"
+abbrev pub counts_given : Result KeyCounts Refusal → KeyCounts
+counts_given (Ok counts) = counts
+counts_given (Err refusal) = record { used0 = 0; passed0 = 0; used1 = 0; passed1 = 0 }
+
 abbrev pub KeyCountPromise : ℕ → List ℕ → ℕ → ℕ → KeyCounts → Type 0
 KeyCountPromise level seed room_public room_private counts =
     counts_of counts ≡ reported (make_key_says level seed room_public room_private) (key_counts (level_of level) seed)
@@ -80,15 +87,23 @@ fair_reasons level count room =
     ∷ record { applies = ltb most_words count || differs room (poly_bytes l); number = 2 }
     ∷ []
 
+unfoldable pub fair_work : Level → List ℕ → List Reason
+fair_work l words = record { applies = ran_out l.d (drawn_for l words); number = 10 } ∷ []
+
 unfoldable pub fair_says : ℕ → List ℕ → ℕ → Outcome
 fair_says level words room =
     let l = level_of level in
     let drawn = drawn_for l words in
-    settle (fair_reasons level (length words) room ++ (record { applies = ran_out l.d drawn; number = 10 } ∷ []))
+    settle (fair_reasons level (length words) room ++ fair_work l words)
     (record { room = room; value = bytes_of l.r (support drawn.positions) } ∷ [])
 
 abbrev pub FairPromise : ℕ → List ℕ → ℕ → ℕ → List ℕ → Type 0
 FairPromise level words room r polynomial = gives r (polynomial ∷ []) ≡ fair_says level words room
+
+-- "0 on a refusal"
+abbrev pub fair_given : Result FairCounts Refusal → FairCounts
+fair_given (Ok counts) = counts
+fair_given (Err refusal) = record { used = 0; passed = 0 }
 
 abbrev pub FairCountPromise : ℕ → List ℕ → ℕ → ℕ → ℕ → Type 0
 FairCountPromise level words room used passed =

@@ -8,21 +8,15 @@ pub fn copy(from: &[u8], out: &mut [u8])
     requires { length out.old ≡ length from.now }
     ensures { out.new ≡ from.now }
 {
-    let mut i = 0;
-    while i < from.len() {
-        out[i] = from[i];
-        i += 1;
-    }
+    out.copy_from_slice(from);
 }
 
 pub fn xor(a: &[u8], b: &[u8], out: &mut [u8])
     requires { (length a.now ≡ message_bytes) × (length b.now ≡ message_bytes) × (length out.old ≡ message_bytes) }
     ensures { out.new ≡ xor_bytes a.now b.now }
 {
-    let mut i = 0;
-    while i < out.len() {
+    for i in 0..out.len() {
         out[i] = a[i] ^ b[i];
-        i += 1;
     }
 }
 
@@ -32,10 +26,8 @@ pub fn same(a: &[u8], b: &[u8]) -> bool
     ensures { Tells result (a.now ≡ b.now) }
 {
     let mut equal = true;
-    let mut i = 0;
-    while i < a.len() {
+    for i in 0..a.len() {
         equal = equal & (a[i] == b[i]);
-        i += 1;
     }
     equal
 }
@@ -51,9 +43,7 @@ pub fn choose(mask: u8, a: &[u8], b: &[u8], out: &mut [u8])
     requires { (length a.now ≡ length out.old) × (length b.now ≡ length out.old) }
     ensures { (mask ≡ 255 → out.new ≡ a.now) × (mask ≡ 0 → out.new ≡ b.now) }
 {
-    let mut i = 0;
-    while i < out.len() {
+    for i in 0..out.len() {
         out[i] = pick(mask, a[i], b[i]);
-        i += 1;
     }
 }

@@ -7,5 +7,6 @@ mod rounds;
 mod rows;
 
 pub use crate::decoder::early::find_early;
-pub use crate::decoder::private_key::{Key, is_good, read_key};
+pub use crate::decoder::private_key::{is_good, read_key};
 pub use crate::decoder::rounds::find;
+pub use crate::halves::Key;

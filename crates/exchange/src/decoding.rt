@@ -20,13 +20,12 @@ pub fn write(level: u32, private_key: &[u8], syndrome: &[u8], e0: &mut [u8], e1:
         × (e1.new ≡ bytes_of (level_of level).r (found bgf (level_of level) (secret (level_of level) private_key.now) (bits 8 syndrome.now)).half1) }
 {
     let found = find(level, read_key(level, private_key), words::load(syndrome));
-    let f0 = found.e0;
-    let f1 = found.e1;
-    words::store(f0, e0);
-    words::store(f1, e1);
+    words::store(found.error.half0, e0);
+    words::store(found.error.half1, e1);
     found.failed
 }
 
+// Whether decoding failed, and how many rounds there were, which is told either way.
 #[derive(Drop)]
 pub struct Told {
     pub failed: bool,
@@ -47,13 +46,11 @@ pub fn write_early(
         × (e1.new ≡ bytes_of (level_of level).r (found bgf (level_of level) (secret (level_of level) private_key.now) (bits 8 syndrome.now)).half1)
         × (result.rounds ≡ fewest (level_of level) (secret (level_of level) private_key.now) (bits 8 syndrome.now)) }
 {
-    let found = find_early(level, read_key(level, private_key), words::load(syndrome));
-    let half0 = found.e0;
-    let half1 = found.e1;
-    words::store(half0, e0);
-    words::store(half1, e1);
+    let early = find_early(level, read_key(level, private_key), words::load(syndrome));
+    words::store(early.found.error.half0, e0);
+    words::store(early.found.error.half1, e1);
     Told {
-        failed: found.failed,
-        rounds: found.rounds as u32,
+        failed: early.found.failed,
+        rounds: early.rounds as u32,
     }
 }

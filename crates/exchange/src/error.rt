@@ -6,46 +6,30 @@ ghost use Rattle.hashing.specs.Sponge.{shake256};
 ghost use Rattle.ring.specs.Bytes.{bytes_of};
 ghost use Rattle.ring.specs.Levels.{level_of, poly_bytes};
 ghost use Rattle.ring.specs.Polynomials.{listed};
-ghost use Rattle.ring.specs.inner.Sizes.{most_t, error_bytes, word_bits, word_bytes};
+ghost use Rattle.ring.specs.inner.Sizes.{word_bits};
 ghost use Rattle.exchange.specs.Scheme;
 ghost use Rattle.exchange.specs.Scheme.{error_positions, error_replaced, hash_h};
 
+use crate::halves::{Halves, Pair};
 use crate::sampler;
+use hashing::fill::filled;
 use hashing::sponge;
-use ring::frame::{cut, zeros};
-use ring::multiply::{WIDE, reduce, wide_zeros};
+use ring::frame::cut;
+use ring::multiply::{WIDE, reduce};
 use ring::size::{MOST_T, WORDS};
 use ring::{size, words};
 
 const STREAM: usize = 4 * MOST_T;
 
-const BYTES: usize = 8 * WORDS;
-
-// Room for the positions of the largest level, for the words that they come from, and for the bytes of a half.
-fn no_positions() -> [u32; MOST_T]
-    ensures { most_t ≡ length result }
-{
-    [0; MOST_T]
-}
-
-fn no_words() -> [u8; STREAM]
-    ensures { error_bytes ≡ length result }
-{
-    [0; STREAM]
-}
-
-fn no_bytes() -> [u8; BYTES]
-    ensures { word_bytes ≡ length result }
-{
-    [0; BYTES]
-}
+// The bytes of a half of the largest level.
+pub const BYTES: usize = 8 * WORDS;
 
 // The stream of the message: 4t bytes.
 fn stream(level: u32, message: &[u8]) -> [u8; STREAM]
     ensures { take (4 * (level_of level).t) result ≡ shake256 message.now (4 * (level_of level).t) }
 {
     let n = 4 * size::error_weight(level);
-    let mut words = no_words();
+    let mut words = [0; STREAM];
     sponge::digest(
         sponge::SHAKE256_RATE,
         sponge::SHAKE256_SUFFIX,
@@ -70,7 +54,7 @@ pub fn positions(level: u32, message: &[u8]) -> ErrorPositions
     let n = 4 * t;
     let len = 2 * (size::block(level) as u32);
     let words = stream(level, message);
-    let mut list = no_positions();
+    let mut list = [0; MOST_T];
     let replaced = sampler::sample(len, &words[..n], &mut list[..t]);
     ErrorPositions { list, replaced }
 }
@@ -90,62 +74,52 @@ pub fn place(list: &[u32], out: &mut [u64])
     requires fact_2 { ((p : ℕ) → listed p list.now ≡ true → p < 64 * length out.old) }
     ensures { bits 64 out.new ≡ (λ k. listed k list.now) }
 {
-    let mut i = 0;
-    while i < list.len() {
+    for i in 0..list.len() {
         put(list[i], out);
-        i += 1;
     }
 }
 
-#[derive(Drop)]
-pub struct ErrorWords {
-    pub e0: [u64; WORDS],
-    pub e1: [u64; WORDS],
-}
-
-// The first r bits are e0's and the next r are e1's. With X^r = 1 they all come to the sum of both, and that and e0 are
-// e1.
-fn split(r: usize, all: [u64; WIDE]) -> ErrorWords
+// The first r bits are one half's and the next r are the other's. With X^r = 1 they all come to the sum of both, and
+// that and the first half are the second.
+fn split(r: usize, all: [u64; WIDE]) -> Pair
     requires { (r % 2 ≡ 1) × (r < word_bits) }
-    ensures { (bits 64 result.e0 ≡ (λ k. ltb k r && bits 64 all k)) × (bits 64 result.e1 ≡ (λ k. ltb k r && bits 64 all (r + k))) }
+    ensures { (bits 64 result.half0 ≡ (λ k. ltb k r && bits 64 all k)) × (bits 64 result.half1 ≡ (λ k. ltb k r && bits 64 all (r + k))) }
 {
     let n = r / 64 + 1;
-    let mut front = zeros();
+    let mut front: [u64; WORDS] = filled(0);
     words::place(&mut front, &all[..n], 0);
-    let e0 = cut(r, front);
-    let e1 = words::sum(reduce(all, r), e0, n);
-    ErrorWords { e0, e1 }
+    let half0 = cut(r, front);
+    let half1 = words::sum(reduce(all, r), half0, n);
+    Halves { half0, half1 }
 }
 
 // The two halves of the positions that are listed.
-pub fn halves(level: u32, list: &[u32]) -> ErrorWords
+pub fn halves(level: u32, list: &[u32]) -> Pair
     requires { (p : ℕ) → listed p list.now ≡ true → p < 2 * (level_of level).r }
-    ensures { (bits 64 result.e0 ≡ (Scheme.split (level_of level).r list.now).half0)
-        × (bits 64 result.e1 ≡ (Scheme.split (level_of level).r list.now).half1) }
+    ensures { (bits 64 result.half0 ≡ (Scheme.split (level_of level).r list.now).half0)
+        × (bits 64 result.half1 ≡ (Scheme.split (level_of level).r list.now).half1) }
 {
-    let mut all = wide_zeros();
+    let mut all: [u64; WIDE] = filled(0);
     place(list, &mut all);
     split(size::block(level), all)
 }
 
 #[derive(Drop)]
 pub struct Hashed {
-    pub words: ErrorWords,
+    pub words: Pair,
     pub replaced: u32,
 }
 
 // H in words, and how many positions were replaced.
 pub fn words_of(level: u32, message: &[u8]) -> Hashed
-    ensures { (bits 64 result.words.e0 ≡ (hash_h (level_of level) message.now).half0)
-        × (bits 64 result.words.e1 ≡ (hash_h (level_of level) message.now).half1)
+    ensures { (bits 64 result.words.half0 ≡ (hash_h (level_of level) message.now).half0)
+        × (bits 64 result.words.half1 ≡ (hash_h (level_of level) message.now).half1)
         × (result.replaced ≡ error_replaced (level_of level) message.now) }
 {
     let t = size::error_weight(level);
     let sampled = positions(level, message);
-    let list = sampled.list;
-    let words = halves(level, &list[..t]);
     Hashed {
-        words,
+        words: halves(level, &sampled.list[..t]),
         replaced: sampled.replaced,
     }
 }
@@ -158,28 +132,20 @@ pub fn hash_h(level: u32, message: &[u8], e0: &mut [u8], e1: &mut [u8]) -> u32
         × (result ≡ error_replaced (level_of level) message.now) }
 {
     let e = words_of(level, message);
-    let w0 = e.words.e0;
-    let w1 = e.words.e1;
-    words::store(w0, e0);
-    words::store(w1, e1);
+    words::store(e.words.half0, e0);
+    words::store(e.words.half1, e1);
     e.replaced
 }
 
-#[derive(Drop)]
-pub struct ErrorBytes {
-    pub e0: [u8; BYTES],
-    pub e1: [u8; BYTES],
-}
-
 // An error's bytes, each half at the front of its array.
-pub fn stored(level: u32, e0: [u64; WORDS], e1: [u64; WORDS]) -> ErrorBytes
-    ensures { (take (poly_bytes (level_of level)) result.e0 ≡ bytes_of (level_of level).r (bits 64 e0))
-        × (take (poly_bytes (level_of level)) result.e1 ≡ bytes_of (level_of level).r (bits 64 e1)) }
+pub fn stored(level: u32, e: Pair) -> Halves<[u8; BYTES]>
+    ensures { (take (poly_bytes (level_of level)) result.half0 ≡ bytes_of (level_of level).r (bits 64 e.half0))
+        × (take (poly_bytes (level_of level)) result.half1 ≡ bytes_of (level_of level).r (bits 64 e.half1)) }
 {
     let n = size::polynomial(level);
-    let mut b0 = no_bytes();
-    let mut b1 = no_bytes();
-    words::store(e0, &mut b0[..n]);
-    words::store(e1, &mut b1[..n]);
-    ErrorBytes { e0: b0, e1: b1 }
+    let mut half0 = [0; BYTES];
+    let mut half1 = [0; BYTES];
+    words::store(e.half0, &mut half0[..n]);
+    words::store(e.half1, &mut half1[..n]);
+    Halves { half0, half1 }
 }

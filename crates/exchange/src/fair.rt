@@ -1,28 +1,27 @@
 // Fair positions: a word, masked, is one if that is below r and not yet listed. Branches and time depend on which words
 // are passed over: key making alone draws so, once for a seed, and reports how many these are.
-ghost use Rattle.std.specs.Prelude.{◌≡◌, true, false, ℕ, ◌≤◌, ◌<◌, length, get_or, take};
+ghost use Rattle.std.specs.Prelude.{◌≡◌, true, false, ℕ, ◌≤◌, ◌<◌, length, get_or, take, ◌++◌, IfOk};
 ghost use Rattle.std.specs.Int.Bits.{bit_and};
+ghost use Rattle.hashing.specs.Answers.{first_of};
 ghost use Rattle.hashing.specs.Lists.{bits};
+ghost use Rattle.hashing.specs.Refusals.{answer};
+ghost use Rattle.ring.specs.Bytes.{bytes_of};
 ghost use Rattle.ring.specs.Levels.{level_of};
 ghost use Rattle.ring.specs.Polynomials.{support};
 ghost use Rattle.ring.specs.inner.Sizes.{most_d};
 ghost use Rattle.exchange.specs.Fair;
-ghost use Rattle.exchange.specs.Fair.{most_words, mask_of, taken, ran_out, drawn_for};
+ghost use Rattle.exchange.specs.Fair.{most_words, mask_of, taken, drawn_for};
+ghost use Rattle.exchange.specs.Promises.{fair_reasons, fair_work};
 
-use crate::error;
-use ring::frame::zeros;
+use crate::{error, judge};
+use hashing::Refusal;
+use hashing::fill::filled;
 use ring::size::MOST_D;
+use ring::words::store;
 use ring::{WORDS, size};
 
 // The words that a polynomial may use.
 pub const MOST_WORDS: usize = 512;
-
-// Room for the positions of the largest level.
-fn no_positions() -> [u32; MOST_D]
-    ensures { most_d ≡ length result }
-{
-    [0; MOST_D]
-}
 
 fn mask(level: u32) -> u32
     ensures { result ≡ mask_of (level_of level).r }
@@ -30,7 +29,8 @@ fn mask(level: u32) -> u32
     (1 << size::position_bits(level)) - 1
 }
 
-// The place of the first word that is taken, from `from` on, or the words' length.
+// The place of the first word that is taken, from `from` on, or the words' length. Document 01 names the form: nested
+// over words and listed positions, and left from inside by a label.
 fn search(r: u32, mask: u32, words: &[u32], from: usize, list: &[u32]) -> usize
     requires { from ≤ length words.now }
     ensures { (from ≤ result) × (result ≤ length words.now)
@@ -64,7 +64,8 @@ struct Count {
     used: usize,
 }
 
-// Fills the list from its front, until it is full or the words run out.
+// Fills the list from its front, until it is full or the words run out. A search says where the next turn begins, so no
+// `for` counts them.
 fn draw(r: u32, mask: u32, words: &[u32], list: &mut [u32]) -> Count
     ensures { (take result.listed list.new ≡ (Fair.draw r (length list.old) mask words.now).positions)
         × (result.used ≡ (Fair.draw r (length list.old) mask words.now).used)
@@ -98,7 +99,7 @@ fn positions(level: u32, words: &[u32]) -> FairPositions
         × (result.used ≡ (drawn_for (level_of level) words.now).used) }
 {
     let d = size::key_weight(level);
-    let mut list = no_positions();
+    let mut list = [0; MOST_D];
     let count = draw(
         size::block(level) as u32,
         mask(level),
@@ -112,31 +113,52 @@ fn positions(level: u32, words: &[u32]) -> FairPositions
     }
 }
 
+// The words that a polynomial used, and those of them that it passed over.
 #[derive(Drop)]
-pub struct FairWords {
-    pub words: [u64; WORDS],
-    pub ran_out: bool,
+pub struct FairCounts {
     pub used: u32,
     pub passed: u32,
 }
 
-// One polynomial in words, and what it took; whether the words ran out before it had its weight.
-pub fn polynomial(level: u32, words: &[u32]) -> FairWords
+#[derive(Drop)]
+pub struct FairWords {
+    pub words: [u64; WORDS],
+    pub counts: FairCounts,
+}
+
+// One polynomial in words, and what it took; refused where the words ran out before it had its weight.
+pub fn polynomial(level: u32, words: &[u32]) -> Result<FairWords, Refusal>
     requires { length words.now ≤ most_words }
-    ensures { (bits 64 result.words ≡ support (drawn_for (level_of level) words.now).positions)
-        × (result.ran_out ≡ ran_out (level_of level).d (drawn_for (level_of level) words.now))
-        × (result.used ≡ (drawn_for (level_of level) words.now).used)
-        × (result.passed ≡ (drawn_for (level_of level) words.now).passed) }
+    ensures answered { answer result ≡ first_of (fair_work (level_of level) words.now) }
+    ensures drawn { IfOk result (λ drawn. (bits 64 drawn.words ≡ support (drawn_for (level_of level) words.now).positions)
+        × (drawn.counts.used ≡ (drawn_for (level_of level) words.now).used)
+        × (drawn.counts.passed ≡ (drawn_for (level_of level) words.now).passed)) }
 {
     let drawn = positions(level, words);
-    let list = drawn.list;
     let listed = drawn.listed;
-    let mut placed = zeros();
-    error::place(&list[..listed], &mut placed);
-    FairWords {
-        words: placed,
-        ran_out: listed < size::key_weight(level),
-        used: drawn.used as u32,
-        passed: (drawn.used - listed) as u32,
+    if listed < size::key_weight(level) {
+        return Err(Refusal::WordsRanOut);
     }
+    let mut placed: [u64; WORDS] = filled(0);
+    error::place(&drawn.list[..listed], &mut placed);
+    Ok(FairWords {
+        words: placed,
+        counts: FairCounts {
+            used: drawn.used as u32,
+            passed: (drawn.used - listed) as u32,
+        },
+    })
+}
+
+// One polynomial's bytes, where nothing is refused.
+pub fn write(level: u32, words: &[u32], out: &mut [u8]) -> Result<FairCounts, Refusal>
+    ensures answered { answer result ≡ first_of (fair_reasons level (length words.now) (length out.old) ++ fair_work (level_of level) words.now) }
+    ensures written { IfOk result (λ counts. (out.new ≡ bytes_of (level_of level).r (support (drawn_for (level_of level) words.now).positions))
+        × (counts.used ≡ (drawn_for (level_of level) words.now).used)
+        × (counts.passed ≡ (drawn_for (level_of level) words.now).passed)) }
+{
+    judge::fair(level, words.len(), out.len())?;
+    let drawn = polynomial(level, words)?;
+    store(drawn.words, out);
+    Ok(drawn.counts)
 }

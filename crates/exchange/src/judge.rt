@@ -2,12 +2,14 @@
 // or 0. An output comes in by its actual length, its room.
 ghost use Rattle.std.specs.Prelude.{◌≡◌, length};
 ghost use Rattle.hashing.specs.Answers.{first_of};
+ghost use Rattle.hashing.specs.Refusals.{answer};
 ghost use Rattle.ring.specs.Levels.{level_of, poly_bytes, private_bytes};
 ghost use Rattle.exchange.specs.Doors.{making_door_reasons};
 ghost use Rattle.exchange.specs.Promises.{error_reasons, making_reasons, fair_reasons, wrapping_reasons, content_reasons, decoding_reasons, opening_reasons};
 
 use crate::decoder::{is_good, read_key};
 use crate::fair::MOST_WORDS;
+use hashing::Refusal;
 use ring::layout::pad_set;
 use ring::level::known;
 use ring::size;
@@ -15,44 +17,49 @@ use ring::size;
 // A report's four numbers have 4 bytes each.
 const REPORT: usize = 16;
 
-pub fn error(level: u32, message: &[u8], room0: usize, room1: usize) -> u32
-    ensures { result ≡ first_of (error_reasons level message.now room0 room1) }
+pub fn error(level: u32, message: &[u8], room0: usize, room1: usize) -> Result<(), Refusal>
+    ensures { answer result ≡ first_of (error_reasons level message.now room0 room1) }
 {
     if !known(level) {
-        return 1;
+        return Err(Refusal::UnknownLevel);
     }
     let n = size::polynomial(level);
     if (message.len() != size::MESSAGE) | (room0 != n) | (room1 != n) {
-        return 2;
+        return Err(Refusal::WrongLength);
     }
-    0
+    Ok(())
 }
 
-pub fn making(level: u32, seed: &[u8], room_public: usize, room_private: usize) -> u32
-    ensures { result ≡ first_of (making_reasons level seed.now room_public room_private) }
+pub fn making(
+    level: u32,
+    seed: &[u8],
+    room_public: usize,
+    room_private: usize,
+) -> Result<(), Refusal>
+    ensures { answer result ≡ first_of (making_reasons level seed.now room_public room_private) }
 {
     if !known(level) {
-        return 1;
+        return Err(Refusal::UnknownLevel);
     }
     if (seed.len() != size::SEED)
         | (room_public != size::polynomial(level))
         | (room_private != size::private_key(level))
     {
-        return 2;
+        return Err(Refusal::WrongLength);
     }
-    0
+    Ok(())
 }
 
-pub fn fair(level: u32, count: usize, room: usize) -> u32
-    ensures { result ≡ first_of (fair_reasons level count room) }
+pub fn fair(level: u32, count: usize, room: usize) -> Result<(), Refusal>
+    ensures { answer result ≡ first_of (fair_reasons level count room) }
 {
     if !known(level) {
-        return 1;
+        return Err(Refusal::UnknownLevel);
     }
     if (count > MOST_WORDS) | (room != size::polynomial(level)) {
-        return 2;
+        return Err(Refusal::WrongLength);
     }
-    0
+    Ok(())
 }
 
 // The door of key making has a report too.
@@ -62,14 +69,14 @@ pub fn making_door(
     room_public: usize,
     room_private: usize,
     room_report: usize,
-) -> u32
-    ensures { result ≡ first_of (making_door_reasons level seed.now room_public room_private room_report) }
+) -> Result<(), Refusal>
+    ensures { answer result ≡ first_of (making_door_reasons level seed.now room_public room_private room_report) }
 {
-    let answer = making(level, seed, room_public, room_private);
-    if (answer == 0) & (room_report != REPORT) {
-        return 2;
+    making(level, seed, room_public, room_private)?;
+    if room_report != REPORT {
+        return Err(Refusal::WrongLength);
     }
-    answer
+    Ok(())
 }
 
 pub fn wrapping(
@@ -78,44 +85,50 @@ pub fn wrapping(
     message: &[u8],
     room_ciphertext: usize,
     room_key: usize,
-) -> u32
-    ensures { result ≡ first_of (wrapping_reasons level public_key.now message.now room_ciphertext room_key) }
+) -> Result<(), Refusal>
+    ensures { answer result ≡ first_of (wrapping_reasons level public_key.now message.now room_ciphertext room_key) }
 {
     if !known(level) {
-        return 1;
+        return Err(Refusal::UnknownLevel);
     }
     if (public_key.len() != size::polynomial(level))
         | (message.len() != size::MESSAGE)
         | (room_ciphertext != size::ciphertext(level))
         | (room_key != size::MESSAGE)
     {
-        return 2;
+        return Err(Refusal::WrongLength);
     }
     if pad_set(size::block(level), public_key) {
-        return 3;
+        return Err(Refusal::PadBit);
     }
-    0
+    Ok(())
 }
 
 // Decoding and opening, once the lengths are right.
-fn contents(level: u32, private_key: &[u8], polynomial: &[u8]) -> u32
+fn contents(level: u32, private_key: &[u8], polynomial: &[u8]) -> Result<(), Refusal>
     requires { (length private_key.now ≡ private_bytes (level_of level)) × (length polynomial.now ≡ poly_bytes (level_of level)) }
-    ensures { result ≡ first_of (content_reasons (level_of level) private_key.now polynomial.now) }
+    ensures { answer result ≡ first_of (content_reasons (level_of level) private_key.now polynomial.now) }
 {
     if pad_set(size::block(level), polynomial) {
-        return 3;
+        return Err(Refusal::PadBit);
     }
     if !is_good(level, read_key(level, private_key)) {
-        return 4;
+        return Err(Refusal::BadPosition);
     }
-    0
+    Ok(())
 }
 
-pub fn decoding(level: u32, private_key: &[u8], syndrome: &[u8], room0: usize, room1: usize) -> u32
-    ensures { result ≡ first_of (decoding_reasons level private_key.now syndrome.now room0 room1) }
+pub fn decoding(
+    level: u32,
+    private_key: &[u8],
+    syndrome: &[u8],
+    room0: usize,
+    room1: usize,
+) -> Result<(), Refusal>
+    ensures { answer result ≡ first_of (decoding_reasons level private_key.now syndrome.now room0 room1) }
 {
     if !known(level) {
-        return 1;
+        return Err(Refusal::UnknownLevel);
     }
     let n = size::polynomial(level);
     if (private_key.len() != size::private_key(level))
@@ -123,23 +136,28 @@ pub fn decoding(level: u32, private_key: &[u8], syndrome: &[u8], room0: usize, r
         | (room0 != n)
         | (room1 != n)
     {
-        return 2;
+        return Err(Refusal::WrongLength);
     }
     contents(level, private_key, syndrome)
 }
 
-pub fn opening(level: u32, private_key: &[u8], ciphertext: &[u8], room_key: usize) -> u32
-    ensures { result ≡ first_of (opening_reasons level private_key.now ciphertext.now room_key) }
+pub fn opening(
+    level: u32,
+    private_key: &[u8],
+    ciphertext: &[u8],
+    room_key: usize,
+) -> Result<(), Refusal>
+    ensures { answer result ≡ first_of (opening_reasons level private_key.now ciphertext.now room_key) }
 {
     if !known(level) {
-        return 1;
+        return Err(Refusal::UnknownLevel);
     }
     let n = size::polynomial(level);
     if (private_key.len() != size::private_key(level))
         | (ciphertext.len() != size::ciphertext(level))
         | (room_key != size::MESSAGE)
     {
-        return 2;
+        return Err(Refusal::WrongLength);
     }
     contents(level, private_key, &ciphertext[..n])
 }

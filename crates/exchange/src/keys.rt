@@ -1,7 +1,8 @@
 // Key making: two sparse polynomials from a seed, the quotient that is public, and the positions that are kept.
-ghost use Rattle.std.specs.Prelude.{◌≡◌, false, ◌++◌, ◌+◌, ◌*◌, ◌≤◌, length, take, replicate};
+ghost use Rattle.std.specs.Prelude.{◌≡◌, false, ◌++◌, ◌+◌, ◌*◌, ◌≤◌, length, take, IfOk, OnOk};
 ghost use Rattle.hashing.specs.Answers.{first_of};
 ghost use Rattle.hashing.specs.Lists.{bits};
+ghost use Rattle.hashing.specs.Refusals.{answer};
 ghost use Rattle.hashing.specs.Sponge.{shake256};
 ghost use Rattle.ring.specs.Levels.{level_of, message_bytes, tail_bytes};
 ghost use Rattle.ring.specs.Polynomials;
@@ -12,8 +13,9 @@ ghost use Rattle.exchange.specs.Scheme.{key_words, h0_of, h1_of, public_of, priv
 
 use crate::digest::key_digest;
 use crate::fair::MOST_WORDS;
-use crate::{bytes, fair};
-use hashing::sponge;
+use crate::halves::Pair;
+use crate::{bytes, fair, judge};
+use hashing::{Refusal, sponge};
 use ring::little_endian::four;
 use ring::size::TAIL;
 use ring::times::times;
@@ -24,24 +26,12 @@ const KEY_WORDS: usize = MOST_WORDS + MOST_WORDS;
 
 const STREAM: usize = 4 * KEY_WORDS;
 
-fn no_bytes() -> [u8; STREAM]
-    ensures { 4 * key_words ≡ length result }
-{
-    [0; STREAM]
-}
-
-fn no_words() -> [u32; KEY_WORDS]
-    ensures { key_words ≡ length result }
-{
-    [0; KEY_WORDS]
-}
-
 // The stream of the seed's first half.
 fn stream(seed: &[u8]) -> [u8; STREAM]
     requires { 32 ≤ length seed.now }
     ensures { result ≡ shake256 (take message_bytes seed.now) (4 * key_words) }
 {
-    let mut bytes = no_bytes();
+    let mut bytes = [0; STREAM];
     sponge::digest(
         sponge::SHAKE256_RATE,
         sponge::SHAKE256_SUFFIX,
@@ -55,11 +45,9 @@ fn words_of(bytes: &[u8]) -> [u32; KEY_WORDS]
     requires { 4 * key_words ≤ length bytes.now }
     ensures { result ≡ numbers 4 key_words bytes.now }
 {
-    let mut words = no_words();
-    let mut i = 0;
-    while i < KEY_WORDS {
+    let mut words = [0; KEY_WORDS];
+    for i in 0..KEY_WORDS {
         words[i] = four(bytes, 4 * i);
-        i += 1;
     }
     words
 }
@@ -73,70 +61,50 @@ pub struct KeyCounts {
     pub passed1: u32,
 }
 
-pub fn no_counts() -> KeyCounts
-    ensures { counts_of result ≡ replicate 4 0 }
-{
-    KeyCounts {
-        used0: 0,
-        passed0: 0,
-        used1: 0,
-        passed1: 0,
-    }
-}
-
-#[derive(Drop)]
-pub struct KeyWords {
-    pub h0: [u64; WORDS],
-    pub h1: [u64; WORDS],
-}
-
+// Both halves, and what was drawn for them.
 #[derive(Drop)]
 struct KeyHalves {
-    h0: [u64; WORDS],
-    h1: [u64; WORDS],
-    ran_out: bool,
+    words: Pair,
     counts: KeyCounts,
 }
 
 // h0 from the first 512 words at most, h1 from the next 512 after those that h0 used.
-fn both_halves(level: u32, seed: &[u8]) -> KeyHalves
+fn both_halves(level: u32, seed: &[u8]) -> Result<KeyHalves, Refusal>
     requires { 32 ≤ length seed.now }
-    ensures { (bits 64 result.h0 ≡ h0_of (level_of level) seed.now)
-        × (bits 64 result.h1 ≡ h1_of (level_of level) seed.now)
-        × (result.ran_out ≡ key_ran_out (level_of level) seed.now)
-        × (counts_of result.counts ≡ key_counts (level_of level) seed.now) }
+    ensures answered { answer result ≡ first_of (work_reasons (level_of level) seed.now) }
+    ensures enough { OnOk result (key_ran_out (level_of level) seed.now ≡ false) }
+    ensures drawn { IfOk result (λ drawn. (bits 64 drawn.words.half0 ≡ h0_of (level_of level) seed.now)
+        × (bits 64 drawn.words.half1 ≡ h1_of (level_of level) seed.now)
+        × (counts_of drawn.counts ≡ key_counts (level_of level) seed.now)) }
 {
     let bytes = stream(seed);
     let words = words_of(&bytes);
-    let first = fair::polynomial(level, &words[..MOST_WORDS]);
-    let at = first.used as usize;
+    let first = fair::polynomial(level, &words[..MOST_WORDS])?;
+    let at = first.counts.used as usize;
     let end = at + MOST_WORDS;
-    let second = fair::polynomial(level, &words[at..end]);
-    let h0 = first.words;
-    let h1 = second.words;
-    KeyHalves {
-        h0,
-        h1,
-        ran_out: first.ran_out | second.ran_out,
+    let second = fair::polynomial(level, &words[at..end])?;
+    let half0 = first.words;
+    let half1 = second.words;
+    Ok(KeyHalves {
+        words: Pair { half0, half1 },
         counts: KeyCounts {
-            used0: first.used,
-            passed0: first.passed,
-            used1: second.used,
-            passed1: second.passed,
+            used0: first.counts.used,
+            passed0: first.counts.passed,
+            used1: second.counts.used,
+            passed1: second.counts.passed,
         },
-    }
+    })
 }
 
+// The library's `to_le_bytes` would need the same two stores.
 fn write_numbers(list: &[u16], out: &mut [u8])
     requires { length out.old ≡ 2 * length list.now }
     ensures { out.new ≡ two_bytes list.now }
 {
-    let mut i = 0;
-    while i < list.len() {
+    for i in 0..list.len() {
         let p = list[i];
         out[2 * i] = (p % 256) as u8;
         out[2 * i + 1] = (p / 256) as u8;
-        i += 1;
     }
 }
 
@@ -164,23 +132,15 @@ fn write_rest(level: u32, h: [u64; WORDS], tail: &[u8], out: &mut [u8])
 }
 
 // A private key: two halves of weight d, and what follows their positions.
-pub fn write_private(level: u32, h: KeyWords, tail: &[u8], out: &mut [u8])
+pub fn write_private(level: u32, h: Pair, tail: &[u8], out: &mut [u8])
     requires fact_1 { length out.old ≡ 2 * ((level_of level).d + (level_of level).d) + length tail.now }
-    requires fact_2 { InRing (level_of level).r (bits 64 h.h0) × InRing (level_of level).r (bits 64 h.h1) }
-    requires fact_3 { (weight (level_of level).r (bits 64 h.h0) ≡ (level_of level).d) × (weight (level_of level).r (bits 64 h.h1) ≡ (level_of level).d) }
-    ensures { out.new ≡ private_key_of (level_of level).r (bits 64 h.h0) (bits 64 h.h1) tail.now }
+    requires fact_2 { InRing (level_of level).r (bits 64 h.half0) × InRing (level_of level).r (bits 64 h.half1) }
+    requires fact_3 { (weight (level_of level).r (bits 64 h.half0) ≡ (level_of level).d) × (weight (level_of level).r (bits 64 h.half1) ≡ (level_of level).d) }
+    ensures { out.new ≡ private_key_of (level_of level).r (bits 64 h.half0) (bits 64 h.half1) tail.now }
 {
     let n = 2 * size::key_weight(level);
-    let h0 = h.h0;
-    let h1 = h.h1;
-    write_half(level, h0, &mut out[..n]);
-    write_rest(level, h1, tail, &mut out[n..]);
-}
-
-fn no_tail() -> [u8; TAIL]
-    ensures { tail_bytes ≡ length result }
-{
-    [0; TAIL]
+    write_half(level, h.half0, &mut out[..n]);
+    write_rest(level, h.half1, tail, &mut out[n..]);
 }
 
 // What follows the positions: sigma, and the digest of the public key.
@@ -190,52 +150,43 @@ fn tail_of(sigma: &[u8], public_key: &[u8]) -> [u8; TAIL]
 {
     let n = sigma.len();
     let digest = key_digest(public_key);
-    let mut tail = no_tail();
+    let mut tail = [0; TAIL];
     bytes::copy(sigma, &mut tail[..n]);
     bytes::copy(&digest, &mut tail[n..]);
     tail
 }
 
 // Both keys. Where no words ran out, h0 has an inverse.
-fn write(level: u32, seed: &[u8], h: KeyWords, public_key: &mut [u8], private_key: &mut [u8])
+fn write(level: u32, seed: &[u8], h: Pair, public_key: &mut [u8], private_key: &mut [u8])
     requires fact_1 { first_of (making_reasons level seed.now (length public_key.old) (length private_key.old)) ≡ 0 }
     requires fact_2 { key_ran_out (level_of level) seed.now ≡ false }
-    requires fact_3 { (bits 64 h.h0 ≡ h0_of (level_of level) seed.now) × (bits 64 h.h1 ≡ h1_of (level_of level) seed.now) }
+    requires fact_3 { (bits 64 h.half0 ≡ h0_of (level_of level) seed.now) × (bits 64 h.half1 ≡ h1_of (level_of level) seed.now) }
     ensures { (public_key.new ≡ bytes_of (level_of level).r (public_of (level_of level) seed.now))
         × (private_key.new ≡ private_of (level_of level) seed.now) }
 {
     let r = size::block(level);
     let d = size::key_weight(level);
-    let h0 = h.h0;
-    let h1 = h.h1;
-    let inverse = invert::invert_unit(r, h0, d);
-    words::store(times(r, inverse, h1, d), public_key);
+    let inverse = invert::invert_unit(r, h.half0, d);
+    words::store(times(r, inverse, h.half1, d), public_key);
     let tail = tail_of(&seed[32..], public_key);
-    write_private(level, KeyWords { h0, h1 }, &tail, private_key);
+    write_private(level, h, &tail, private_key);
 }
 
-// The number that shows only in the work, which is 10 or 0, and what was drawn for it.
-#[derive(Drop)]
-pub struct Made {
-    pub number: u32,
-    pub counts: KeyCounts,
-}
-
-// Key making, once it is judged: the keys where the number is 0.
-pub fn make(level: u32, seed: &[u8], public_key: &mut [u8], private_key: &mut [u8]) -> Made
-    requires { first_of (making_reasons level seed.now (length public_key.old) (length private_key.old)) ≡ 0 }
-    ensures { (result.number ≡ first_of (work_reasons (level_of level) seed.now))
-        × (result.number ≡ 0 → (public_key.new ≡ bytes_of (level_of level).r (public_of (level_of level) seed.now))
-        × (private_key.new ≡ private_of (level_of level) seed.now))
-        × (counts_of result.counts ≡ key_counts (level_of level) seed.now) }
+// Key making: the keys where nothing is refused.
+pub fn make(
+    level: u32,
+    seed: &[u8],
+    public_key: &mut [u8],
+    private_key: &mut [u8],
+) -> Result<KeyCounts, Refusal>
+    ensures answered { answer result ≡ first_of (making_reasons level seed.now (length public_key.old) (length private_key.old)
+        ++ work_reasons (level_of level) seed.now) }
+    ensures made { IfOk result (λ counts. (public_key.new ≡ bytes_of (level_of level).r (public_of (level_of level) seed.now))
+        × (private_key.new ≡ private_of (level_of level) seed.now)
+        × (counts_of counts ≡ key_counts (level_of level) seed.now)) }
 {
-    let drawn = both_halves(level, seed);
-    let counts = drawn.counts;
-    if drawn.ran_out {
-        return Made { number: 10, counts };
-    }
-    let h0 = drawn.h0;
-    let h1 = drawn.h1;
-    write(level, seed, KeyWords { h0, h1 }, public_key, private_key);
-    Made { number: 0, counts }
+    judge::making(level, seed, public_key.len(), private_key.len())?;
+    let drawn = both_halves(level, seed)?;
+    write(level, seed, drawn.words, public_key, private_key);
+    Ok(drawn.counts)
 }

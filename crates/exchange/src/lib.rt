@@ -9,6 +9,7 @@ pub mod digest;
 pub mod doors;
 pub mod error;
 mod fair;
+pub mod halves;
 mod judge;
 pub mod keys;
 mod masks;
@@ -18,104 +19,60 @@ mod sampler;
 mod wrapping;
 
 ghost use Rattle.std.specs.Prelude.{length};
-ghost use Rattle.exchange.specs.Promises.{ErrorOfPromise, ErrorCountPromise, MakeKeyPromise, KeyCountPromise, FairPromise, FairCountPromise, WrapPromise, DecodePromise, RoundsPromise, OpenPromise};
+ghost use Rattle.hashing.specs.Refusals.{answer, given};
+ghost use Rattle.exchange.specs.Promises.{ErrorOfPromise, ErrorCountPromise, MakeKeyPromise, counts_given, KeyCountPromise, FairPromise, fair_given, FairCountPromise, WrapPromise, DecodePromise, RoundsPromise, OpenPromise};
 
-use hashing::refuse;
-use keys::KeyCounts;
+pub use fair::FairCounts;
+use hashing::Refusal;
+use hashing::fill::zero;
+pub use keys::KeyCounts;
 pub use record::read_record;
-use ring::words::store;
-
-#[derive(Drop)]
-pub struct ErrorAnswer {
-    pub answer: u32,
-    pub replaced: u32,
-}
 
 // H: the error of a message, and how many of its positions were replaced.
-pub fn error_of(level: u32, message: &[u8], e0: &mut [u8], e1: &mut [u8]) -> ErrorAnswer
+pub fn error_of(level: u32, message: &[u8], e0: &mut [u8], e1: &mut [u8]) -> Result<u32, Refusal>
     ensures error_of_promise { ErrorOfPromise level message.now (length e0.old) (length e1.old)
-        result.answer e0.new e1.new }
-    ensures error_count_promise { ErrorCountPromise level message.now (length e0.old) (length e1.old) result.replaced }
+        (answer result) e0.new e1.new }
+    ensures error_count_promise { ErrorCountPromise level message.now (length e0.old) (length e1.old) (given result) }
 {
-    let answer = judge::error(level, message, e0.len(), e1.len());
-    if answer != 0 {
-        return ErrorAnswer {
-            answer: refuse::two(answer, e0, e1),
-            replaced: 0,
-        };
+    if let Err(refusal) = judge::error(level, message, e0.len(), e1.len()) {
+        zero(e0);
+        zero(e1);
+        return Err(refusal);
     }
-    ErrorAnswer {
-        answer: 0,
-        replaced: error::hash_h(level, message, e0, e1),
-    }
-}
-
-#[derive(Drop)]
-pub struct KeyAnswer {
-    pub answer: u32,
-    pub counts: KeyCounts,
+    Ok(error::hash_h(level, message, e0, e1))
 }
 
 // Key making: a public and a private key from a seed, and how many words each half of the key used and passed over.
-pub fn make_key(level: u32, seed: &[u8], public_key: &mut [u8], private_key: &mut [u8]) -> KeyAnswer
+pub fn make_key(
+    level: u32,
+    seed: &[u8],
+    public_key: &mut [u8],
+    private_key: &mut [u8],
+) -> Result<KeyCounts, Refusal>
     ensures make_key_promise { MakeKeyPromise level seed.now (length public_key.old) (length private_key.old)
-        result.answer public_key.new private_key.new }
+        (answer result) public_key.new private_key.new }
     ensures key_count_promise { KeyCountPromise level seed.now (length public_key.old) (length private_key.old)
-        result.counts }
+        (counts_given result) }
 {
-    let answer = judge::making(level, seed, public_key.len(), private_key.len());
-    if answer != 0 {
-        return KeyAnswer {
-            answer: refuse::two(answer, public_key, private_key),
-            counts: keys::no_counts(),
-        };
-    }
     let made = keys::make(level, seed, public_key, private_key);
-    let counts = made.counts;
-    if made.number != 0 {
-        return KeyAnswer {
-            answer: refuse::two(made.number, public_key, private_key),
-            counts: keys::no_counts(),
-        };
+    if made.is_err() {
+        zero(public_key);
+        zero(private_key);
     }
-    KeyAnswer { answer: 0, counts }
-}
-
-#[derive(Drop)]
-pub struct FairAnswer {
-    pub answer: u32,
-    pub used: u32,
-    pub passed: u32,
+    made
 }
 
 // One polynomial of key making from lent words, how many of them were used, and how many of those were passed over.
-pub fn fair_polynomial(level: u32, words: &[u32], out: &mut [u8]) -> FairAnswer
-    ensures fair_promise { FairPromise level words.now (length out.old) result.answer out.new }
-    ensures fair_count_promise { FairCountPromise level words.now (length out.old) result.used result.passed }
+pub fn fair_polynomial(level: u32, words: &[u32], out: &mut [u8]) -> Result<FairCounts, Refusal>
+    ensures fair_promise { FairPromise level words.now (length out.old) (answer result) out.new }
+    ensures fair_count_promise { FairCountPromise level words.now (length out.old) (fair_given result).used
+        (fair_given result).passed }
 {
-    let answer = judge::fair(level, words.len(), out.len());
-    if answer != 0 {
-        return FairAnswer {
-            answer: refuse::one(answer, out),
-            used: 0,
-            passed: 0,
-        };
+    let drawn = fair::write(level, words, out);
+    if drawn.is_err() {
+        zero(out);
     }
-    let drawn = fair::polynomial(level, words);
-    if drawn.ran_out {
-        return FairAnswer {
-            answer: refuse::one(10, out),
-            used: 0,
-            passed: 0,
-        };
-    }
-    let polynomial = drawn.words;
-    store(polynomial, out);
-    FairAnswer {
-        answer: 0,
-        used: drawn.used,
-        passed: drawn.passed,
-    }
+    drawn
 }
 
 // Wrapping: a ciphertext and a session key from a public key and a message.
@@ -125,46 +82,55 @@ pub fn wrap(
     message: &[u8],
     ciphertext: &mut [u8],
     session_key: &mut [u8],
-) -> u32
+) -> Result<(), Refusal>
     ensures { WrapPromise level public_key.now message.now (length ciphertext.old)
-        (length session_key.old) result ciphertext.new session_key.new }
+        (length session_key.old) (answer result) ciphertext.new session_key.new }
 {
-    let answer = judge::wrapping(
+    if let Err(refusal) = judge::wrapping(
         level,
         public_key,
         message,
         ciphertext.len(),
         session_key.len(),
-    );
-    if answer != 0 {
-        return refuse::two(answer, ciphertext, session_key);
+    ) {
+        zero(ciphertext);
+        zero(session_key);
+        return Err(refusal);
     }
     wrapping::write(level, public_key, message, ciphertext, session_key);
-    0
+    Ok(())
 }
 
-// Decoding: the error of a syndrome under a private key, and zeros with 6.
-pub fn decode(level: u32, private_key: &[u8], syndrome: &[u8], e0: &mut [u8], e1: &mut [u8]) -> u32
+// Decoding: the error of a syndrome under a private key, and zeros where it is not found.
+pub fn decode(
+    level: u32,
+    private_key: &[u8],
+    syndrome: &[u8],
+    e0: &mut [u8],
+    e1: &mut [u8],
+) -> Result<(), Refusal>
     ensures { DecodePromise level private_key.now syndrome.now (length e0.old)
-        (length e1.old) result e0.new e1.new }
+        (length e1.old) (answer result) e0.new e1.new }
 {
-    let answer = judge::decoding(level, private_key, syndrome, e0.len(), e1.len());
-    if answer != 0 {
-        return refuse::two(answer, e0, e1);
+    if let Err(refusal) = judge::decoding(level, private_key, syndrome, e0.len(), e1.len()) {
+        zero(e0);
+        zero(e1);
+        return Err(refusal);
     }
     if decoding::write(level, private_key, syndrome, e0, e1) {
-        return 6;
+        return Err(Refusal::Undecoded);
     }
-    0
+    Ok(())
 }
 
+// The rounds are told beside a refusal too: 5 where the error is not found, else 0.
 #[derive(Drop)]
 pub struct Decoded {
-    pub answer: u32,
+    pub answer: Result<(), Refusal>,
     pub rounds: u32,
 }
 
-// The same by rounds that stop when the residual is gone, and how many were done: 5 with 6, and 0 with 1 to 4.
+// The same by rounds that stop when the residual is gone, and how many were done.
 pub fn decode_early(
     level: u32,
     private_key: &[u8],
@@ -173,33 +139,44 @@ pub fn decode_early(
     e1: &mut [u8],
 ) -> Decoded
     ensures decode_promise { DecodePromise level private_key.now syndrome.now (length e0.old)
-        (length e1.old) result.answer e0.new e1.new }
+        (length e1.old) (answer result.answer) e0.new e1.new }
     ensures rounds_promise { RoundsPromise level private_key.now syndrome.now (length e0.old)
         (length e1.old) result.rounds }
 {
-    let answer = judge::decoding(level, private_key, syndrome, e0.len(), e1.len());
-    if answer != 0 {
+    if let Err(refusal) = judge::decoding(level, private_key, syndrome, e0.len(), e1.len()) {
+        zero(e0);
+        zero(e1);
         return Decoded {
-            answer: refuse::two(answer, e0, e1),
+            answer: Err(refusal),
             rounds: 0,
         };
     }
     let told = decoding::write_early(level, private_key, syndrome, e0, e1);
     let rounds = told.rounds;
     if told.failed {
-        return Decoded { answer: 6, rounds };
+        let answer = Err(Refusal::Undecoded);
+        return Decoded { answer, rounds };
     }
-    Decoded { answer: 0, rounds }
+    Decoded {
+        answer: Ok(()),
+        rounds,
+    }
 }
 
-// Opening: the session key of a ciphertext under a private key. A ciphertext that no message fits has the answer 0 too.
-pub fn open(level: u32, private_key: &[u8], ciphertext: &[u8], session_key: &mut [u8]) -> u32
+// Opening: the session key of a ciphertext under a private key. A ciphertext that no message fits is no refusal.
+pub fn open(
+    level: u32,
+    private_key: &[u8],
+    ciphertext: &[u8],
+    session_key: &mut [u8],
+) -> Result<(), Refusal>
     ensures { OpenPromise level private_key.now ciphertext.now (length session_key.old)
-        result session_key.new }
+        (answer result) session_key.new }
 {
-    let answer = judge::opening(level, private_key, ciphertext, session_key.len());
-    if answer != 0 {
-        return refuse::one(answer, session_key);
+    if let Err(refusal) = judge::opening(level, private_key, ciphertext, session_key.len()) {
+        zero(session_key);
+        return Err(refusal);
     }
-    opening::write(level, private_key, ciphertext, session_key)
+    opening::write(level, private_key, ciphertext, session_key);
+    Ok(())
 }

@@ -1,11 +1,12 @@
 // Records: a length, a kind and a body.
-ghost use Rattle.std.specs.Prelude.{◌≡◌, ◌≤◌, ◌<◌, length};
+ghost use Rattle.std.specs.Prelude.{◌≡◌, ◌<◌, length};
 ghost use Rattle.ring.specs.Levels.{level_of};
-ghost use Rattle.exchange.specs.Records.{thing_number, body_bytes, known_kind, RecordPromise, Lists};
+ghost use Rattle.exchange.specs.Records.{thing_number, body_bytes, NamesThing, NamesKind, RecordPromise, Lists};
 
+use hashing::refusal::Refusal;
 use ring::{level, little_endian, size};
 
-#[derive(Drop)]
+#[derive(Clone, Copy, PartialEq, Eq)]
 pub enum Thing {
     Seed,
     PublicKey,
@@ -15,145 +16,117 @@ pub enum Thing {
     SessionKey,
 }
 
-#[derive(Drop)]
-pub struct Record {
+impl Thing {
+    // Document 01's number.
+    pub fn number(self) -> u32
+        ensures { result ≡ thing_number self }
+    {
+        match self {
+            Thing::Seed => 1,
+            Thing::PublicKey => 2,
+            Thing::PrivateKey => 3,
+            Thing::Ciphertext => 4,
+            Thing::Message => 5,
+            Thing::SessionKey => 6,
+        }
+    }
+}
+
+impl TryFrom<u32> for Thing {
+    type Error = Refusal;
+
+    ghost try_from_gives = { NamesThing };
+
+    fn try_from(number: u32) -> Result<Thing, Refusal> {
+        match number {
+            1 => Ok(Thing::Seed),
+            2 => Ok(Thing::PublicKey),
+            3 => Ok(Thing::PrivateKey),
+            4 => Ok(Thing::Ciphertext),
+            5 => Ok(Thing::Message),
+            6 => Ok(Thing::SessionKey),
+            _ => Err(Refusal::UnknownKind),
+        }
+    }
+}
+
+// A thing of a known level.
+#[derive(Clone, Copy, PartialEq, Eq)]
+pub struct Kind {
     pub level: u32,
     pub thing: Thing,
+}
+
+impl TryFrom<u32> for Kind {
+    type Error = Refusal;
+
+    ghost try_from_gives = { NamesKind };
+
+    fn try_from(kind: u32) -> Result<Kind, Refusal> {
+        let level = kind / 256;
+        if !level::known(level) {
+            return Err(Refusal::UnknownKind);
+        }
+        let thing = Thing::try_from(kind % 256)?;
+        Ok(Kind { level, thing })
+    }
+}
+
+impl Kind {
+    // How long a body of this kind must be.
+    #[tactic(auto, unfolding(crate::specs::Records::body_bytes))]
+    fn body_bytes(self) -> usize
+        ensures { result ≡ body_bytes (level_of self.level) (thing_number self.thing) }
+    {
+        match self.thing {
+            Thing::Seed => size::SEED,
+            Thing::PublicKey => size::polynomial(self.level),
+            Thing::PrivateKey => size::private_key(self.level),
+            Thing::Ciphertext => size::ciphertext(self.level),
+            Thing::Message | Thing::SessionKey => size::MESSAGE,
+        }
+    }
+}
+
+#[derive(Clone, Copy, PartialEq, Eq)]
+pub struct Record {
+    pub kind: Kind,
     pub body: usize,
-}
-
-#[derive(Drop)]
-pub enum Reading {
-    Good(Record),
-    Short,
-    UnknownKind,
-    WrongLength,
-}
-
-// The thing of a number from 1 to 6.
-#[tactic(auto, unfolding(crate::specs::Records::thing_number))]
-fn thing_of(number: u32) -> Thing
-    requires { (1 ≤ number) × (number ≤ 6) }
-    ensures { thing_number result ≡ number }
-{
-    match number {
-        1 => Thing::Seed,
-        2 => Thing::PublicKey,
-        3 => Thing::PrivateKey,
-        4 => Thing::Ciphertext,
-        5 => Thing::Message,
-        _ => Thing::SessionKey,
-    }
-}
-
-// How long the body of a thing must be.
-fn body_bytes(level: u32, thing: u32) -> usize
-    requires { (1 ≤ thing) × (thing ≤ 6) }
-    ensures { result ≡ body_bytes (level_of level) thing }
-{
-    let lengths = [
-        size::SEED,
-        size::polynomial(level),
-        size::private_key(level),
-        size::ciphertext(level),
-        size::MESSAGE,
-        size::MESSAGE,
-    ];
-    lengths[(thing - 1) as usize]
-}
-
-pub fn known_kind(kind: u32) -> bool
-    ensures { result ≡ known_kind kind }
-{
-    if !level::known(kind / 256) {
-        return false;
-    }
-    let thing = kind % 256;
-    1 <= thing && thing <= 6
 }
 
 // The length that a record states is compared with what is there before anything is added to it: it may be 2^32 - 1.
-pub fn read_record(bytes: &[u8]) -> Reading
+pub fn read_record(bytes: &[u8]) -> Result<Record, Refusal>
     ensures { RecordPromise bytes.now result }
 {
     if bytes.len() < 6 {
-        return Reading::Short;
+        return Err(Refusal::CutRecord);
     }
     let body = little_endian::four(bytes, 0) as usize;
     if bytes.len() - 6 < body {
-        return Reading::Short;
+        return Err(Refusal::CutRecord);
     }
-    let kind = little_endian::two(bytes, 4);
-    if !known_kind(kind) {
-        return Reading::UnknownKind;
+    let kind = Kind::try_from(little_endian::two(bytes, 4))?;
+    if body != kind.body_bytes() {
+        return Err(Refusal::WrongBody);
     }
-    let level = kind / 256;
-    let thing = kind % 256;
-    if body != body_bytes(level, thing) {
-        return Reading::WrongLength;
-    }
-    Reading::Good(Record {
-        level,
-        thing: thing_of(thing),
-        body,
-    })
+    Ok(Record { kind, body })
 }
 
-// A line of a listing: document 01's numbers for a reading, and where the next record begins: after a refusal, at the
-// end.
-#[derive(Drop)]
+// A line of a listing: what is read, and where the next record begins: after a refusal, at the end.
+#[derive(Clone, Copy)]
 pub struct Line {
-    pub answer: u32,
-    pub level: u32,
-    pub thing: u32,
-    pub body: usize,
+    pub reading: Result<Record, Refusal>,
     pub next: usize,
-}
-
-#[tactic(auto, unfolding(crate::specs::Records::thing_number))]
-fn number_of(thing: Thing) -> u32
-    ensures { result ≡ thing_number thing }
-{
-    match thing {
-        Thing::Seed => 1,
-        Thing::PublicKey => 2,
-        Thing::PrivateKey => 3,
-        Thing::Ciphertext => 4,
-        Thing::Message => 5,
-        Thing::SessionKey => 6,
-    }
-}
-
-fn refused(answer: u32, end: usize) -> Line
-    ensures { result ≡ record { answer = answer; level = 0; thing = 0; body = 0; next = end } }
-{
-    Line {
-        answer,
-        level: 0,
-        thing: 0,
-        body: 0,
-        next: end,
-    }
 }
 
 pub fn line_at(bytes: &[u8], at: usize) -> Line
     requires { at < length bytes.now }
     ensures { Lists bytes.now at result }
 {
-    let end = bytes.len();
-    match read_record(&bytes[at..]) {
-        Reading::Good(found) => {
-            let thing = found.thing;
-            Line {
-                answer: 0,
-                level: found.level,
-                thing: number_of(thing),
-                body: found.body,
-                next: at + 6 + found.body,
-            }
-        }
-        Reading::Short => refused(7, end),
-        Reading::UnknownKind => refused(8, end),
-        Reading::WrongLength => refused(9, end),
-    }
+    let reading = read_record(&bytes[at..]);
+    let next = match reading {
+        Ok(record) => at + 6 + record.body,
+        Err(_) => bytes.len(),
+    };
+    Line { reading, next }
 }

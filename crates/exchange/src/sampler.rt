@@ -13,10 +13,8 @@ fn listed(pos: u32, list: &[u32]) -> bool
     ensures { result ≡ Polynomials.listed pos list.now }
 {
     let mut found = false;
-    let mut k = 0;
-    while k < list.len() {
+    for k in 0..list.len() {
         found = found | (pos == list[k]);
-        k += 1;
     }
     found
 }
@@ -35,6 +33,7 @@ struct Choice {
     replaced: u32,
 }
 
+// The two values are selected in the compiled code, without a branch, which another form might bring.
 fn chosen(i: u32, pos: u32, list: &[u32]) -> Choice
     ensures { (list.now ++ (result.position ∷ []) ≡ appended i pos list.now)
         × (result.replaced ≡ bit (Polynomials.listed pos list.now)) × (result.replaced ≤ 1) }
@@ -60,10 +59,8 @@ pub fn sample(len: u32, stream: &[u8], list: &mut [u32]) -> u32
         × (result ≡ Sampler.replaced len (length list.old) (numbers 4 (length list.old) stream.now)) }
 {
     let mut count = 0;
-    let mut i = list.len();
-    while 0 < i {
-        let done = list.len() - i;
-        i -= 1;
+    for done in 0..list.len() {
+        let i = list.len() - 1 - done;
         let pos = candidate(len, i as u32, little_endian::four(stream, 4 * i));
         let choice = chosen(i as u32, pos, &list[..done]);
         list[done] = choice.position;

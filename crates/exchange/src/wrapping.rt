@@ -10,41 +10,38 @@ ghost use Rattle.exchange.specs.Promises.{wrapping_reasons};
 ghost use Rattle.exchange.specs.Scheme.{key_digest, hash_h, bound_h, hash_k, xor_bytes, wrapped};
 
 use crate::digest::{bound, digest32, key_digest};
+use crate::halves::Pair;
 use crate::{bytes, error};
 use ring::sparse::sparse_upper;
 use ring::{WORDS, size, words};
 
 #[derive(Drop)]
-pub struct Addends {
-    pub e0: [u64; WORDS],
-    pub e1: [u64; WORDS],
-    pub product: [u64; WORDS],
+struct Addends {
+    e: Pair,
+    product: [u64; WORDS],
 }
 
 // The error of a message, and e1·h. All positions go into the product, those of e0 as empty windows, so that the work
 // is the same for every message.
 fn addends_of(level: u32, h: [u64; WORDS], message: &[u8]) -> Addends
     requires { InRing (level_of level).r (bits 64 h) }
-    ensures { (bits 64 result.e0 ≡ (hash_h (level_of level) message.now).half0)
-        × (bits 64 result.e1 ≡ (hash_h (level_of level) message.now).half1)
+    ensures { (bits 64 result.e.half0 ≡ (hash_h (level_of level) message.now).half0)
+        × (bits 64 result.e.half1 ≡ (hash_h (level_of level) message.now).half1)
         × (bits 64 result.product ≡ mul (level_of level).r (hash_h (level_of level) message.now).half1 (bits 64 h)) }
 {
     let t = size::error_weight(level);
     let sampled = error::positions(level, message);
-    let list = sampled.list;
-    let e = error::halves(level, &list[..t]);
-    let product = sparse_upper(size::block(level), &list, t, h);
-    let e0 = e.e0;
-    let e1 = e.e1;
-    Addends { e0, e1, product }
+    let e = error::halves(level, &sampled.list[..t]);
+    let product = sparse_upper(size::block(level), &sampled.list, t, h);
+    Addends { e, product }
 }
 
 // The same of a message, tied to the public key.
 fn bound_addends(level: u32, h: &[u8], message: &[u8]) -> Addends
     requires fact_1 { length h.now ≡ poly_bytes (level_of level) }
     requires fact_2 { InRing (level_of level).r (bits 8 h.now) }
-    ensures { (bits 64 result.e0 ≡ (bound_h (level_of level) (key_digest h.now) message.now).half0)
-        × (bits 64 result.e1 ≡ (bound_h (level_of level) (key_digest h.now) message.now).half1)
+    ensures { (bits 64 result.e.half0 ≡ (bound_h (level_of level) (key_digest h.now) message.now).half0)
+        × (bits 64 result.e.half1 ≡ (bound_h (level_of level) (key_digest h.now) message.now).half1)
         × (bits 64 result.product ≡ mul (level_of level).r (bound_h (level_of level) (key_digest h.now) message.now).half1 (bits 8 h.now)) }
 {
     let tied = bound(&key_digest(h), message);
@@ -80,14 +77,9 @@ fn write_ciphertext(level: u32, h: &[u8], message: &[u8], out: &mut [u8])
 {
     let n = size::polynomial(level);
     let a = bound_addends(level, h, message);
-    let e0 = a.e0;
-    let e1 = a.e1;
-    let product = a.product;
-    write_c0(level, e0, product, &mut out[..n]);
-    let b = error::stored(level, e0, e1);
-    let b0 = b.e0;
-    let b1 = b.e1;
-    write_c1(message, &b0[..n], &b1[..n], &mut out[n..]);
+    write_c0(level, a.e.half0, a.product, &mut out[..n]);
+    let b = error::stored(level, a.e);
+    write_c1(message, &b.half0[..n], &b.half1[..n], &mut out[n..]);
 }
 
 pub fn write_key(message: &[u8], ciphertext: &[u8], out: &mut [u8])

@@ -1,19 +1,15 @@
 -- A buffer that is copied, chosen under a mask or compared, byte by byte. Assumes nothing.
-use mathlib.Core.Path.{◌≡◌, refl, sym, ap, ◌∙◌}
-use mathlib.Core.Bool.{Bool, true, false, ◌&&◌, true≢false}
+use mathlib.Core.Path.{◌≡◌, sym, ap, ◌∙◌}
 use mathlib.Core.List.{List, ◌++◌}
 use Prim.Native.Nat.{ℕ, ◌+◌, ◌%◌, ◌^◌, ◌<◌}
 use native.Mathlib.Nat.{mod-eq_of_lt}
 use native.Mathlib.Numerals.{add-one}
 use native.Mathlib.Omega.{arith}
 use lib.Bits.{bit_and, bit_or, and_mask, and_zero_r, or_zero_l, or_zero_r}
-use lib.Dec.{eqb}
 use lib.ListN.{length, get_or, set, take, drop}
 use lib.Seq.{take-suc, take-take, get_or-take}
-use borrow.Author.Tests.{eqb-true, eq-eqb}
 use Rattle.hashing.specs.Lists.{tab}
 use Rattle.hashing.proofs.Lists.{filled_more, filled_all, tab-get_or}
-use Rattle.ring.specs.Polynomials.{Tells}
 
 -- a loop that copies xs over l: i elements are done
 abbrev pub Copied : List ℕ → List ℕ → ℕ → List ℕ → Type 0
@@ -46,15 +42,3 @@ module _ (a b : List ℕ) (long : length a ≡ length b) (i : ℕ) (more : i < l
   joined : take i a ≡ take i b → get_or a i 0 ≡ get_or b i 0 → take (i + 1) a ≡ take (i + 1) b
   joined so_far here =
       let more' : i < length b = omega arith in rw (add-one i, take-suc a i 0 more, take-suc b i 0 more', so_far, here)
-
-  pub tells_more : (t : Bool) → Tells t (take i a ≡ take i b) → Tells (t && eqb (get_or a i 0) (get_or b i 0)) (take (i + 1) a ≡ take (i + 1) b)
-  tells_more true so_far =
-      record {
-        holds = λ e. joined (so_far.holds refl) (eqb-true (get_or a i 0) (get_or b i 0) e);
-        fails = λ e same. true≢false (sym (eq-eqb (get_or a i 0) (get_or b i 0) (last same)) ∙ e);
-      }
-  tells_more false so_far =
-      record {
-        holds = λ e. absurd (true≢false (sym e));
-        fails = λ e same. so_far.fails refl (front same);
-      }

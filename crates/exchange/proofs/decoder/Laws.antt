@@ -21,8 +21,8 @@ use Rattle.ring.proofs.Ring
 use Rattle.exchange.specs.decoder.Decoder.{Decoder, Pair, counter, threshold, nothing, residual, passing, reaching, among, without, flipped, bound_of, black, gray, round, masked_step, step, after, bgf, failed, found}
 use Rattle.exchange.specs.decoder.PrivateKey.{positions0, positions1, secret, rising_from, good_key}
 use Rattle.exchange.specs.inner.Working.{key_of, pair_of, Good, Carried}
-use Rattle.exchange.specs.declared.decoder.private_key
 use Rattle.exchange.specs.declared.decoder.rounds
+use Rattle.exchange.specs.declared.halves.Halves.{Halves}
 use Rattle.ring.proofs.Weights.{weight-both}
 
 pub pair_path : {e f : Pair} → e.half0 ≡ f.half0 → e.half1 ≡ f.half1 → e ≡ f
@@ -243,13 +243,13 @@ pub threshold_least : (level s : ℕ) → 3 ≤ threshold (level_of level) s
 threshold_least level s = omega (arith, threshold_above (level_of level) (facts level).bounds.least s)
 
 -- a key that was read from bytes: its polynomials, and what the test of its positions tells
-module _ (l : Level) (key : private_key.Key.Key) (bytes : List ℕ)
-    (read : ((length key.h0 ≡ most_d) × (take l.d key.h0 ≡ positions0 l bytes)) × ((length key.h1 ≡ most_d) × (take l.d key.h1 ≡ positions1 l bytes))) where
+module _ (l : Level) (key : Halves (List ℕ)) (bytes : List ℕ)
+    (read : ((length key.half0 ≡ most_d) × (take l.d key.half0 ≡ positions0 l bytes)) × ((length key.half1 ≡ most_d) × (take l.d key.half1 ≡ positions1 l bytes))) where
   pub read_secret : key_of l key ≡ secret l bytes
   unfolding secret
   read_secret = pair_path (ap support read.0.1) (ap support read.1.1)
 
-  pub read_good : {t : Bool} → t ≡ rising_from l.r 0 (take l.d key.h0) && rising_from l.r 0 (take l.d key.h1) → t ≡ good_key l bytes
+  pub read_good : {t : Bool} → t ≡ rising_from l.r 0 (take l.d key.half0) && rising_from l.r 0 (take l.d key.half1) → t ≡ good_key l bytes
   unfolding good_key
   read_good test = test ∙ ap₂ (λ (a b : List ℕ). rising_from l.r 0 a && rising_from l.r 0 b) read.0.1 read.1.1
 

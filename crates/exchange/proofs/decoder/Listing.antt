@@ -155,7 +155,7 @@ counted r d positions f x room good rows j below =
         let at : get_or (take d positions) i 0 ≡ get_or positions i 0 = get_or-take d positions i 0 h in
         let low : get_or (take d positions) i 0 < r = rising_below r 0 (take d positions) good i (omega (arith, size)) in
         let start : get_or positions i 0 ≤ r = omega arith in
-        ap bit (rows.1 (get_or positions i 0) j start below ∙ ap (λ (k : ℕ). x (k % r)) (add_comm (get_or positions i 0) j ∙ ap (◌+◌ j) (sym at)))
+        ap bit (rows (get_or positions i 0) j start below ∙ ap (λ (k : ℕ). x (k % r)) (add_comm (get_or positions i 0) j ∙ ap (◌+◌ j) (sym at)))
 
 -- each of the first d positions lies below r
 pub position_below : (r d : ℕ) (positions : List ℕ) → d ≤ length positions → rising_from r 0 (take d positions) ≡ true

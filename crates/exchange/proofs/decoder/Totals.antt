@@ -1,16 +1,11 @@
 -- Laws of sums of numbers, and of bits that are counted. Assumes nothing.
-use mathlib.Core.Path.{◌≡◌, refl, sym, ap, ap₂, ◌∙◌}
+use mathlib.Core.Path.{◌≡◌, refl, sym, ap₂}
 use mathlib.Core.Bool.{Bool, true, false}
-use mathlib.Core.List.{List}
 use Prim.Native.Nat.{ℕ, zero, suc, ◌+◌, ◌≤◌, ◌<◌, zero-le}
 use native.Mathlib.Nat.{add-zero, lt-suc_self, add-suc, add_assoc, le_refl}
 use native.Mathlib.Omega.{arith}
-use lib.ListN.{length, replicate, length-replicate}
 use Rattle.ring.specs.Polynomials.{bit}
 use Rattle.exchange.specs.inner.Counting.{total}
-
-pub blank_length : (n : ℕ) {l : List ℕ} → l ≡ replicate n 0 → length l ≡ n
-blank_length n e = ap length e ∙ length-replicate {A = ℕ} n 0
 
 pub total_ext : (n : ℕ) (f g : ℕ → ℕ) → ((i : ℕ) → i < n → f i ≡ g i) → total n f ≡ total n g
 unfolding total

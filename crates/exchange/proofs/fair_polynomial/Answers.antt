@@ -1,50 +1,27 @@
--- `fair_polynomial` writes what is drawn where its judge finds nothing, and refuses with 10 where the words ran out.
-use mathlib.Core.Path.{◌≡◌, sym, ◌∙◌}
-use native.Mathlib.Omega.{arith}
-use lib.ListN.{length}
-use Rattle.hashing.specs.Answers.{first_of}
-use Rattle.hashing.proofs.Answers.{done, refused, done_reports, refused_reports, first_stays, last_applies, last_clear}
-use Rattle.ring.specs.Bytes.{bytes_of}
-use Rattle.ring.proofs.Levels.{sizes}
-use Rattle.exchange.specs.Promises.{fair_reasons, fair_says}
-use Rattle.exchange.proofs.Judged.{fair_clear, fair_numbered}
+-- `fair_polynomial` clears its output where nothing was written.
+use mathlib.Core.Path.{sym, ◌∙◌}
+use Rattle.hashing.proofs.Answers.{done, refuses, done_reports, refuses_reports}
+use Rattle.exchange.specs.Promises.{fair_says}
+use Rattle.exchange.proofs.Judged.{failed, got}
 use Rattle.exchange.proofs.fair_polynomial.Goals as goal
-use Rattle.exchange.proofs.fair_polynomial.Goals.{Else-answer-ne0}
 
-pub returns-then-answer-ne0 : goal.returns-then-answer-ne0
+pub returns-then-is_err : goal.returns-then-is_err
 unfolding fair_says
-returns-then-answer-ne0 c =
-    let first = c.fair-answer.ensures in
-    let is = first ∙ sym (first_stays _ _ (λ none. c.if-answer-ne0.true (first ∙ none))) in
+returns-then-is_err c =
+    let why = failed c.write-drawn.result (sym c.is_err.ensures.value ∙ c.if-is_err.true) in
+    let first = rw why.1 at c.write-drawn.ensures.answered in
     record {
-      fair_promise = rw (c.one.ensures.0, c.one.ensures.1) (sym (refused _ _ is c.if-answer-ne0.true));
-      fair_count_promise = sym (refused_reports _ _ _ is c.if-answer-ne0.true);
+      fair_promise = rw (why.1, c.zero.ensures, c.write-drawn.auto.out) (sym (refuses _ _ why.0 first));
+      fair_count_promise = rw why.1 (sym (refuses_reports _ _ _ why.0 first));
     }
 
--- the judge found nothing
-none : (c : Else-answer-ne0) →
-    let given = c.args in
-    first_of (fair_reasons given.level (length given.words.now) (length given.out.now)) ≡ 0
-none c = sym c.fair-answer.ensures ∙ c.if-answer-ne0.false
-
-pub returns-then-drawn : goal.returns-then-drawn
+pub returns-else-is_err : goal.returns-else-is_err
 unfolding fair_says
-returns-then-drawn c =
-    let ten = last_applies _ _ (fair_numbered _ _ _) (none (goal.at.returns-then-drawn c).Else-answer-ne0) (sym c.polynomial-drawn.ensures.1 ∙ c.if-drawn.true) in
+returns-else-is_err c =
+    let drawn = got c.write-drawn.result (sym c.is_err.ensures.value ∙ c.if-is_err.false) c.write-drawn.ensures.written in
+    let none = sym (rw drawn.1 at c.write-drawn.ensures.answered) in
+    let is = drawn.2 in
     record {
-      fair_promise = rw (c.one-then-drawn.ensures.0, c.one-then-drawn.ensures.1) (sym (refused _ _ (sym ten) (λ e. omega arith)));
-      fair_count_promise = sym (refused_reports _ _ _ (sym ten) (λ e. omega arith));
+      fair_promise = rw (drawn.1, done _ _ none, is.0);
+      fair_count_promise = rw (drawn.1, is.1, is.2) (sym (done_reports _ _ _ none));
     }
-
-pub returns : goal.returns
-unfolding fair_says bytes_of
-returns c =
-    let judged = none (goal.at.returns c).Else-answer-ne0 in
-    let is = c.polynomial-drawn.ensures in
-    let clear = last_clear _ (record { applies = _; number = 10 }) (fair_numbered _ _ _) judged (sym is.1 ∙ c.if-drawn.false) in record { fair_promise = rw (done _ _ clear, c.store.ensures, is.0, (fair_clear judged).room_is); fair_count_promise = rw (is.2, is.3) (sym (done_reports _ _ _ clear)) }
-
-pub polynomial-drawn-requires : goal.polynomial-drawn-requires
-polynomial-drawn-requires c = (fair_clear (none (goal.at.polynomial-drawn-requires c).Else-answer-ne0)).few_words
-
-pub store-requires : goal.store-requires
-store-requires c = omega (arith, (fair_clear (none (goal.at.store-requires c).Else-answer-ne0)).room_is, sizes c.args.level)

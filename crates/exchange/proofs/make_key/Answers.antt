@@ -1,49 +1,28 @@
--- `make_key` makes the keys where its judge finds nothing, and refuses with the number that shows in the work.
-use mathlib.Core.Path.{◌≡◌, sym, ◌∙◌}
-use mathlib.Core.List.{◌++◌}
-use lib.ListN.{length}
-use Rattle.hashing.specs.Answers.{first_of}
-use Rattle.hashing.proofs.Answers.{done, refused, done_reports, refused_reports, first_stays, first_after}
-use Rattle.ring.specs.Levels.{level_of}
-use Rattle.exchange.specs.Promises.{making_reasons, work_reasons, make_key_says}
-use Rattle.exchange.proofs.Judged.{making_numbered}
+-- `make_key` clears its outputs where no keys were made.
+use mathlib.Core.Path.{sym, ◌∙◌}
+use Rattle.hashing.proofs.Answers.{done, refuses, done_reports, refuses_reports}
+use Rattle.exchange.specs.Promises.{make_key_says}
+use Rattle.exchange.proofs.Judged.{failed, got}
 use Rattle.exchange.proofs.make_key.Goals as goal
-use Rattle.exchange.proofs.make_key.Goals.{After-make-made}
 
-pub returns-then-answer-ne0 : goal.returns-then-answer-ne0
+pub returns-then-is_err : goal.returns-then-is_err
 unfolding make_key_says
-returns-then-answer-ne0 c =
-    let first = c.making-answer.ensures in
-    let is = first ∙ sym (first_stays _ _ (λ none. c.if-answer-ne0.true (first ∙ none))) in
+returns-then-is_err c =
+    let why = failed c.make-made.result (sym c.is_err.ensures.value ∙ c.if-is_err.true) in
+    let first = rw why.1 at c.make-made.ensures.answered in
     record {
-      make_key_promise = rw (c.two.ensures.0, c.two.ensures.1, c.two.ensures.2) (sym (refused _ _ is c.if-answer-ne0.true));
-      key_count_promise = c.no_counts.ensures ∙ sym (refused_reports _ _ _ is c.if-answer-ne0.true);
+      make_key_promise = rw (why.1, c.zero.ensures, c.zero-then-is_err.ensures, c.make-made.auto.public_key, c.make-made.auto.private_key)
+          (sym (refuses _ _ why.0 first));
+      key_count_promise = rw why.1 (sym (refuses_reports _ _ _ why.0 first));
     }
 
--- the number of the work is key making's
-number : (c : After-make-made) →
-    let given = c.args in
-    let level = given.level in
-    let seed = given.seed.now in
-    c.make-made.result.number ≡ first_of (making_reasons level seed (length given.public_key.now) (length given.private_key.now) ++ work_reasons (level_of level) seed)
-number c =
-    c.make-made.ensures.0 ∙ sym (first_after _ _ (making_numbered _ _ _ _) (sym c.making-answer.ensures ∙ c.if-answer-ne0.false))
-
-pub returns-then-made-ne0 : goal.returns-then-made-ne0
+pub returns-else-is_err : goal.returns-else-is_err
 unfolding make_key_says
-returns-then-made-ne0 c =
+returns-else-is_err c =
+    let made = got c.make-made.result (sym c.is_err.ensures.value ∙ c.if-is_err.false) c.make-made.ensures.made in
+    let none = sym (rw made.1 at c.make-made.ensures.answered) in
+    let is = made.2 in
     record {
-      make_key_promise = rw (c.two-then-made-ne0.ensures.0, c.two-then-made-ne0.ensures.1, c.two-then-made-ne0.ensures.2, c.make-made.auto.public_key, c.make-made.auto.private_key)
-          (sym (refused _ _ (number (goal.at.returns-then-made-ne0 c).After-make-made) c.if-made-ne0.true));
-      key_count_promise = c.no_counts-then-made-ne0.ensures ∙ sym (refused_reports _ _ _ (number (goal.at.returns-then-made-ne0 c).After-make-made) c.if-made-ne0.true);
-    }
-
-pub returns : goal.returns
-unfolding make_key_says
-returns c =
-    let clear = sym (number (goal.at.returns c).After-make-made) ∙ c.if-made-ne0.false in
-    let keys = c.make-made.ensures.1 c.if-made-ne0.false in
-    record {
-      make_key_promise = rw (done _ _ clear, keys.0, keys.1);
-      key_count_promise = c.make-made.ensures.2 ∙ sym (done_reports _ _ _ clear);
+      make_key_promise = rw (made.1, done _ _ none, is.0, is.1);
+      key_count_promise = rw made.1 (is.2 ∙ sym (done_reports _ _ _ none));
     }

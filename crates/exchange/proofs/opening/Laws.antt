@@ -1,19 +1,14 @@
 -- Two errors are the same in every bit exactly if no bit differs; a choice by a test. Assumes nothing.
 use mathlib.Core.Path.{◌≡◌, refl, ap}
 use mathlib.Core.Bool.{Bool, true, false, not, ◌&&◌}
-use mathlib.Core.List.{List}
 use Prim.Native.Nat.{ℕ, zero, suc, ◌+◌}
 use native.Mathlib.Nat.{zero-add}
 use native.Mathlib.Omega.{arith}
 use lib.Dec.{eqb}
 use borrow.Author.Tests.{ne_eqb}
 use Rattle.ring.specs.Polynomials.{Poly, bit, flip, both, same, weight, add}
-use Rattle.exchange.specs.Opening.{same_error, either}
+use Rattle.exchange.specs.Opening.{same_error}
 use Rattle.exchange.specs.decoder.Decoder.{Pair}
-
-pub either_is : (t : Bool) {x a b : List ℕ} → (t ≡ true → x ≡ a) → (t ≡ false → x ≡ b) → x ≡ either t a b
-either_is true first second = first refl
-either_is false first second = second refl
 
 -- no bit of a sum is set exactly if both are the same
 one_more : (n : ℕ) (t : Bool) → both (eqb n 0) (not t) ≡ eqb (n + bit t) 0

@@ -1,6 +1,6 @@
 -- How the decoder holds a polynomial as rows of bytes: eight copies twice in a row, each a bit further down, and behind
 -- them a row of zeros. No public promise cites this file. Assumes nothing.
-use Rattle.std.specs.Prelude.{◌≡◌, true, false, List, ℕ, ◌+◌, ◌-◌, ◌*◌, ◌/◌, ◌%◌, ◌≤◌, ◌<◌, ltb, length, get_or}
+use Rattle.std.specs.Prelude.{◌≡◌, true, false, List, ℕ, ◌+◌, ◌-◌, ◌*◌, ◌/◌, ◌%◌, ◌≤◌, ◌<◌, ltb, get_or}
 use Rattle.hashing.specs.Lists.{bits}
 use Rattle.ring.specs.inner.Sizes.{words, word_bytes}
 use Rattle.ring.specs.Polynomials.{Poly}
@@ -28,14 +28,13 @@ rows_bytes = empty_row + blocks * block_bytes
 unfoldable pub row_at : ℕ → ℕ
 row_at b = (b % 8) * row_bytes + b / 8
 
--- room for the rows: its row of zeros is there
-abbrev pub Room : List ℕ → Type 0
-Room f = (length f ≡ rows_bytes) × ((k : ℕ) → k < 8 * (blocks * block_bytes) → bits 8 f (8 * empty_row + k) ≡ false)
+-- the row of zeros is there
+abbrev pub EmptyRow : List ℕ → Type 0
+EmptyRow f = (k : ℕ) → k < 8 * (blocks * block_bytes) → bits 8 f (8 * empty_row + k) ≡ false
 
+-- the window at bit b has x from there on
 abbrev pub ByteRows : ℕ → Poly → List ℕ → Type 0
-ByteRows r x f =
-    (length f ≡ rows_bytes) × ((b k : ℕ) → b ≤ r → k < r → bits 8 f (8 * row_at b + k) ≡ x ((b + k) % r))
-    × ((k : ℕ) → k < 8 * (blocks * block_bytes) → bits 8 f (8 * empty_row + k) ≡ false)
+ByteRows r x f = (b k : ℕ) → b ≤ r → k < r → bits 8 f (8 * row_at b + k) ≡ x ((b + k) % r)
 
 -- x, and x again from place r on
 unfoldable pub twice : ℕ → Poly → Poly

@@ -1,12 +1,12 @@
 -- What the functions of `planes` promise. The counters of all places lie in planes: plane k has the bit of weight 2^k
 -- of each, 64 places to a word. No public promise cites this file. Assumes nothing.
-use Rattle.std.specs.Prelude.{◌≡◌, Bool, true, ◌&&◌, ◌||◌, List, ◌⊎◌, ℕ, zero, suc, ◌+◌, ◌*◌, ◌/◌, ◌%◌, ◌≤◌, ◌<◌, length, get_or}
+use Rattle.std.specs.Prelude.{◌≡◌, Bool, true, ◌&&◌, ◌||◌, List, ◌⊎◌, ℕ, zero, suc, ◌+◌, ◌*◌, ◌/◌, ◌%◌, ◌≤◌, ◌<◌, get_or}
 use Rattle.std.specs.Bool.{xor}
 use Rattle.hashing.specs.Lists.{tab, bit_at, bits}
 use Rattle.ring.specs.inner.Sizes.{most_d}
 use Rattle.ring.specs.Bytes.{number}
 use Rattle.ring.specs.Polynomials.{bit}
-use Rattle.exchange.specs.inner.ByteRows.{block_bytes, blocks, empty_row, rows_bytes}
+use Rattle.exchange.specs.inner.ByteRows.{block_bytes, blocks, empty_row}
 use Rattle.exchange.specs.inner.Counting.{total}
 
 abbrev pub planes : ℕ
@@ -46,9 +46,9 @@ ones_at x e = total 8 (λ m. bit (bit_at (get_or x m 0) e))
 unfoldable pub in_row : List ℕ → List ℕ → ℕ → ℕ → ℕ
 in_row f starts j m = bit (bits 8 f (8 * get_or starts m 0 + j))
 
--- each row at the starts lies within f
-abbrev pub Rows : List ℕ → List ℕ → Type 0
-Rows f starts = (length f ≡ rows_bytes) × (length starts ≡ row_starts) × ((m : ℕ) → m < row_starts → get_or starts m 0 ≤ empty_row)
+-- each row at the starts lies within the rows
+abbrev pub Within : List ℕ → Type 0
+Within starts = (m : ℕ) → m < row_starts → get_or starts m 0 ≤ empty_row
 
 -- the columns outside the block at word `from` are kept
 abbrev pub Kept : ℕ → List ℕ → List ℕ → Type 0

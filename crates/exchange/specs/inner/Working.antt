@@ -5,29 +5,35 @@ use Rattle.hashing.specs.Lists.{bits}
 use Rattle.ring.specs.inner.Sizes.{most_d}
 use Rattle.ring.specs.Levels.{Level}
 use Rattle.ring.specs.Polynomials.{Poly, InRing, support}
-use Rattle.exchange.specs.declared.decoder.halves
-use Rattle.exchange.specs.declared.decoder.private_key
 use Rattle.exchange.specs.declared.decoder.rounds
+use Rattle.exchange.specs.declared.halves.Halves.{Halves}
 use Rattle.exchange.specs.decoder.Decoder.{nothing, residual, Pair}
 use Rattle.exchange.specs.decoder.PrivateKey.{rising_from}
 
+-- the polynomials of two halves, and a fact about both
+abbrev pub polynomials : (List ℕ → Poly) → Halves (List ℕ) → Pair
+polynomials of h = record { half0 = of h.half0; half1 = of h.half1 }
+
+abbrev pub Each : (List ℕ → Type 0) → Halves (List ℕ) → Type 0
+Each P h = P h.half0 × P h.half1
+
 -- the first d positions of each half
-abbrev pub key_of : Level → private_key.Key.Key → Pair
-key_of l key = record { half0 = support (take l.d key.h0); half1 = support (take l.d key.h1) }
+abbrev pub key_of : Level → Halves (List ℕ) → Pair
+key_of l = polynomials (λ h. support (take l.d h))
 
 -- room for the largest level, and the level's positions rise below r
 abbrev pub Rising : Level → List ℕ → Type 0
 Rising l h = (length h ≡ most_d) × (rising_from l.r 0 (take l.d h) ≡ true)
 
-abbrev pub Good : Level → private_key.Key.Key → Type 0
-Good l key = Rising l key.h0 × Rising l key.h1
+abbrev pub Good : Level → Halves (List ℕ) → Type 0
+Good l = Each (Rising l)
 
 -- bit j of a half is coefficient j
-abbrev pub pair_of : halves.WordPair.WordPair → Pair
-pair_of e = record { half0 = bits 64 e.e0; half1 = bits 64 e.e1 }
+abbrev pub pair_of : Halves (List ℕ) → Pair
+pair_of = polynomials (bits 64)
 
-abbrev pub Inside : Level → halves.WordPair.WordPair → Type 0
-Inside l e = InRing l.r (bits 64 e.e0) × InRing l.r (bits 64 e.e1)
+abbrev pub Inside : Level → Halves (List ℕ) → Type 0
+Inside l = Each (λ x. InRing l.r (bits 64 x))
 
 -- an error of the ring, and its residual carried along
 abbrev pub Carried : Level → Pair → Poly → rounds.State.State → Type 0

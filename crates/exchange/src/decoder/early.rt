@@ -8,9 +8,9 @@ ghost use Rattle.exchange.specs.decoder.Stopping.{fewest};
 ghost use Rattle.exchange.specs.inner.Working.{key_of, Good, pair_of, Carried};
 
 use crate::decoder::halves::nothing;
-use crate::decoder::private_key::Key;
-use crate::decoder::rounds::{ROUNDS, State, kept, ones, step};
-use crate::decoder::rows;
+use crate::decoder::rounds::{Found, ROUNDS, State, kept, ones, step};
+use crate::decoder::rows::Rows;
+use crate::halves::Key;
 use ring::WORDS;
 
 // What the rounds left where they stopped, its weight, and how many were done.
@@ -30,29 +30,30 @@ fn until_gone(level: u32, key: Key, s: [u64; WORDS]) -> Stopped
         × (result.left ≡ weight (level_of level).r (bits 64 result.state.x))
         × (result.rounds ≡ fewest (level_of level) (key_of (level_of level) key) (bits 64 s)) }
 {
-    let mut f = rows::blank_rows();
+    let mut rows = Rows::blank();
     let mut state = State { x: s, e: nothing() };
     let mut left = ones(level, s);
-    let mut i = 0;
-    while (i < ROUNDS) & (0 < left) {
-        let next = step(level, key, s, state, i, &mut f);
-        let x = next.x;
-        left = ones(level, x);
-        state = next;
-        i += 1;
+    for i in 0..ROUNDS {
+        if left == 0 {
+            return Stopped {
+                state,
+                left,
+                rounds: i,
+            };
+        }
+        state = step(level, key, s, state, i, &mut rows);
+        left = ones(level, state.x);
     }
     Stopped {
-        state: state,
-        left: left,
-        rounds: i,
+        state,
+        left,
+        rounds: ROUNDS,
     }
 }
 
 #[derive(Drop)]
 pub struct Early {
-    pub failed: bool,
-    pub e0: [u64; WORDS],
-    pub e1: [u64; WORDS],
+    pub found: Found,
     pub rounds: usize,
 }
 
@@ -60,21 +61,17 @@ pub struct Early {
 pub fn find_early(level: u32, key: Key, s: [u64; WORDS]) -> Early
     requires fact_1 { Good (level_of level) key }
     requires fact_2 { InRing (level_of level).r (bits 64 s) }
-    ensures { (result.failed ≡ Decoder.failed Decoder.bgf (level_of level) (key_of (level_of level) key) (bits 64 s))
-        × (bits 64 result.e0 ≡ (Decoder.found Decoder.bgf (level_of level) (key_of (level_of level) key) (bits 64 s)).half0)
-        × (bits 64 result.e1 ≡ (Decoder.found Decoder.bgf (level_of level) (key_of (level_of level) key) (bits 64 s)).half1)
+    ensures { (result.found.failed ≡ Decoder.failed Decoder.bgf (level_of level) (key_of (level_of level) key) (bits 64 s))
+        × (pair_of result.found.error ≡ Decoder.found Decoder.bgf (level_of level) (key_of (level_of level) key) (bits 64 s))
         × (result.rounds ≡ fewest (level_of level) (key_of (level_of level) key) (bits 64 s)) }
 {
     let at = until_gone(level, key, s);
     let state = at.state;
-    let e = state.e;
-    let error = kept(level, at.left, e);
-    let e0 = error.e0;
-    let e1 = error.e1;
     Early {
-        failed: 0 < at.left,
-        e0: e0,
-        e1: e1,
+        found: Found {
+            failed: 0 < at.left,
+            error: kept(level, at.left, state.e),
+        },
         rounds: at.rounds,
     }
 }

@@ -7,59 +7,47 @@ ghost use Rattle.ring.specs.Polynomials.{InRing};
 ghost use Rattle.exchange.specs.decoder.Decoder;
 ghost use Rattle.exchange.specs.inner.Working.{pair_of, Inside};
 
-use ring::frame::zeros;
+use crate::halves::Pair;
+use hashing::fill::filled;
 use ring::{WORDS, size, words};
 
-#[derive(Clone, Copy)]
-pub struct WordPair {
-    pub e0: [u64; WORDS],
-    pub e1: [u64; WORDS],
-}
-
-// The bits that two polynomials of n words have both.
+// The bits that two polynomials of n words have both. One function for this and `words::sum` would take a closure on two
+// words, and its clauses would be longer than either loop.
 fn common(a: [u64; WORDS], b: [u64; WORDS], n: usize) -> [u64; WORDS]
     requires { (n ≤ words) × InRing (64 * n) (bits 64 b) }
     ensures { bits 64 result ≡ (λ j. bits 64 a j && bits 64 b j) }
 {
-    let mut c = zeros();
-    let mut i = 0;
-    while i < n {
+    let mut c = filled(0);
+    for i in 0..n {
         c[i] = a[i] & b[i];
-        i += 1;
     }
     c
 }
 
-pub fn flipped(level: u32, e: WordPair, m: WordPair) -> WordPair
+pub fn flipped(level: u32, e: Pair, m: Pair) -> Pair
     requires { Inside (level_of level) e × Inside (level_of level) m }
     ensures { pair_of result ≡ Decoder.flipped (pair_of e) (pair_of m) }
 {
     let n = size::block(level) / 64 + 1;
-    let e0 = e.e0;
-    let e1 = e.e1;
-    let m0 = m.e0;
-    let m1 = m.e1;
-    let f0 = words::sum(e0, m0, n);
-    let f1 = words::sum(e1, m1, n);
-    WordPair { e0: f0, e1: f1 }
+    Pair {
+        half0: words::sum(e.half0, m.half0, n),
+        half1: words::sum(e.half1, m.half1, n),
+    }
 }
 
-pub fn among(level: u32, a: WordPair, b: WordPair) -> WordPair
+pub fn among(level: u32, a: Pair, b: Pair) -> Pair
     requires { Inside (level_of level) b }
     ensures { pair_of result ≡ Decoder.among (pair_of a) (pair_of b) }
 {
     let n = size::block(level) / 64 + 1;
-    let a0 = a.e0;
-    let a1 = a.e1;
-    let b0 = b.e0;
-    let b1 = b.e1;
-    let f0 = common(a0, b0, n);
-    let f1 = common(a1, b1, n);
-    WordPair { e0: f0, e1: f1 }
+    Pair {
+        half0: common(a.half0, b.half0, n),
+        half1: common(a.half1, b.half1, n),
+    }
 }
 
 // Those of a that b has not: a, flipped where b has them too.
-pub fn without(level: u32, a: WordPair, b: WordPair) -> WordPair
+pub fn without(level: u32, a: Pair, b: Pair) -> Pair
     requires { Inside (level_of level) a }
     ensures { pair_of result ≡ Decoder.without (pair_of a) (pair_of b) }
 {
@@ -67,9 +55,11 @@ pub fn without(level: u32, a: WordPair, b: WordPair) -> WordPair
 }
 
 // No error.
-pub fn nothing() -> WordPair
+pub fn nothing() -> Pair
     ensures { pair_of result ≡ Decoder.nothing }
 {
-    let none = zeros();
-    WordPair { e0: none, e1: none }
+    Pair {
+        half0: filled(0),
+        half1: filled(0),
+    }
 }

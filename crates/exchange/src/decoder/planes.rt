@@ -1,17 +1,18 @@
 // The counters of all bits of one half, bit by bit: plane k has the bit of weight 2^k of every counter, 64 places to a
 // word. Eight rows go through full adders in a pass, and a bound is compared plane by plane. No branch sees a secret.
-ghost use Rattle.std.specs.Prelude.{◌≡◌, false, not, ◌&&◌, ◌||◌, ℕ, ◌+◌, ◌*◌, ◌/◌, ◌%◌, ◌^◌, ◌≤◌, ◌<◌, ltb, leb, length, get_or, replicate};
+ghost use Rattle.std.specs.Prelude.{◌≡◌, false, not, ◌&&◌, ◌||◌, ℕ, ◌+◌, ◌*◌, ◌/◌, ◌%◌, ◌^◌, ◌≤◌, ◌<◌, ltb, leb, length, get_or};
 ghost use Rattle.hashing.specs.Lists.{bit_at, bits};
 ghost use Rattle.ring.specs.inner.Sizes.{words, word_bits, most_d};
 ghost use Rattle.ring.specs.Polynomials.{bit, InRing};
-ghost use Rattle.exchange.specs.inner.ByteRows.{block_bytes, blocks, row_at, empty_row, rows_bytes};
+ghost use Rattle.exchange.specs.inner.ByteRows.{row_at, empty_row};
 ghost use Rattle.exchange.specs.inner.Counting.{total};
-ghost use Rattle.exchange.specs.inner.Planes.{planes, block_words, plane_words, planes_words, row_starts, column, number_at, counter_at, ones_at, in_row, Rows, Kept, reaches_at};
+ghost use Rattle.exchange.specs.inner.Planes.{planes, block_words, plane_words, row_starts, column, number_at, counter_at, ones_at, in_row, Within, Kept, reaches_at};
 
-use crate::decoder::rows::{BLOCK, BLOCKS, EMPTY, ROW};
+use crate::decoder::rows::{BLOCK, BLOCKS, EMPTY, ROW, ROWS, Rows};
+use hashing::fill::filled;
 use hashing::lanes::eight_bytes;
 use ring::WORDS;
-use ring::frame::{cut, zeros};
+use ring::frame::cut;
 use ring::size::MOST_D;
 
 // Eight planes count to 255, and a half has at most 137 positions.
@@ -52,12 +53,10 @@ fn carried(p: [u64; PLANES], from: usize, carry: u64) -> [u64; PLANES]
 {
     let mut q = p;
     let mut c = carry;
-    let mut k = from;
-    while k < PLANES {
+    for k in from..PLANES {
         let both = q[k] & c;
         q[k] = q[k] ^ c;
         c = both;
-        k += 1;
     }
     q
 }
@@ -81,125 +80,110 @@ fn added(p: [u64; PLANES], x: [u64; 8]) -> [u64; PLANES]
 }
 
 // Word i of each plane.
-fn column_of(p: &[u64], i: usize) -> [u64; PLANES]
-    requires { (length p.now ≡ planes_words) × (i < plane_words) }
+fn column_of(p: &[u64; COUNTERS], i: usize) -> [u64; PLANES]
+    requires { i < plane_words }
     ensures { result ≡ column p.now i }
 {
     let mut q = [0u64; PLANES];
-    let mut k = 0;
-    while k < PLANES {
+    for k in 0..PLANES {
         q[k] = p[PLANE * k + i];
-        k += 1;
     }
     q
 }
 
-// One output slice with the planes at literal distances, so that the loop over words is vectorised.
-fn set_column(p: &mut [u64], i: usize, q: [u64; PLANES])
-    requires { (length p.old ≡ planes_words) × (i < plane_words) }
+// One output array with the planes at literal distances, so that the loop over words is vectorised.
+fn set_column(p: &mut [u64; COUNTERS], i: usize, q: [u64; PLANES])
+    requires { i < plane_words }
     ensures fact_1 { column p.new i ≡ q }
     ensures fact_2 { ((j : ℕ) → j < plane_words → (j ≡ i → ⊥) → column p.new j ≡ column p.old j) }
 {
-    let mut k = 0;
-    while k < PLANES {
+    for k in 0..PLANES {
         p[PLANE * k + i] = q[k];
-        k += 1;
     }
 }
 
 // Word i of the eight rows from place k of the starts on.
-fn eight(f: &[u8], starts: &[usize], k: usize, i: usize) -> [u64; 8]
-    requires { Rows f.now starts.now × (k + 8 ≤ row_starts) × (i < plane_words) }
+fn eight(f: &[u8; ROWS], starts: &[usize; STARTS], k: usize, i: usize) -> [u64; 8]
+    requires { Within starts.now × (k + 8 ≤ row_starts) × (i < plane_words) }
     ensures { (e : ℕ) → e < 64 → ones_at result e ≡ total 8 (λ m. in_row f.now starts.now (64 * i + e) (k + m)) }
 {
     let mut x = [0u64; 8];
-    let mut m = 0;
-    while m < 8 {
+    for m in 0..8 {
         x[m] = eight_bytes(f, starts[k + m] + 8 * i);
-        m += 1;
     }
     x
 }
 
 // Adds eight rows to the counters of the block that starts at word `from`. The compiler knows the loop's end.
-fn add_rows(p: &mut [u64], f: &[u8], starts: &[usize], k: usize, from: usize)
-    requires fact_1 { (length p.old ≡ planes_words) × (from + block_words ≤ plane_words) × (k + 8 ≤ row_starts) }
-    requires fact_2 { Rows f.now starts.now }
+fn add_rows(
+    p: &mut [u64; COUNTERS],
+    f: &[u8; ROWS],
+    starts: &[usize; STARTS],
+    k: usize,
+    from: usize,
+)
+    requires fact_1 { (from + block_words ≤ plane_words) × (k + 8 ≤ row_starts) }
+    requires fact_2 { Within starts.now }
     ensures fact_1 { ((i e : ℕ) → from ≤ i → i < from + block_words → e < 64
         → number_at (column p.old i) e + total 8 (λ m. in_row f.now starts.now (64 * i + e) (k + m)) < 2 ^ planes
         → number_at (column p.new i) e
         ≡ number_at (column p.old i) e + total 8 (λ m. in_row f.now starts.now (64 * i + e) (k + m))) }
     ensures fact_2 { Kept from p.old p.new }
 {
-    let mut i = 0;
-    while i < BLOCK_WORDS {
+    for i in 0..BLOCK_WORDS {
         let sum = added(column_of(p, from + i), eight(f, starts, k, from + i));
         set_column(p, from + i, sum);
-        i += 1;
     }
 }
 
 // Counts the first d rows in a block whose counters are 0. The rows past them are empty.
-fn count_block(p: &mut [u64], f: &[u8], starts: &[usize], d: usize, from: usize)
-    requires fact_1 { (length p.old ≡ planes_words) × (from + block_words ≤ plane_words) × (d ≤ most_d) }
+fn count_block(
+    p: &mut [u64; COUNTERS],
+    f: &[u8; ROWS],
+    starts: &[usize; STARTS],
+    d: usize,
+    from: usize,
+)
+    requires fact_1 { (from + block_words ≤ plane_words) × (d ≤ most_d) }
     requires fact_2 { ((i e : ℕ) → from ≤ i → i < from + block_words → number_at (column p.old i) e ≡ 0) }
-    requires fact_3 { Rows f.now starts.now
+    requires fact_3 { Within starts.now
         × ((m j : ℕ) → d ≤ m → m < row_starts → j < 64 * plane_words → bits 8 f.now (8 * get_or starts.now m 0 + j) ≡ false) }
     ensures fact_1 { ((i e : ℕ) → from ≤ i → i < from + block_words → e < 64
         → number_at (column p.new i) e ≡ total d (in_row f.now starts.now (64 * i + e))) }
     ensures fact_2 { Kept from p.old p.new }
 {
-    let mut k = 0;
-    while k < d {
-        add_rows(p, f, starts, k, from);
-        k += 8;
+    for pass in 0..(d + 7) / 8 {
+        add_rows(p, f, starts, 8 * pass, from);
     }
-}
-
-fn no_starts() -> [usize; STARTS]
-    ensures { result ≡ replicate row_starts empty_row }
-{
-    [EMPTY; STARTS]
 }
 
 // Where the rows of the positions start; past them stands the row of zeros.
 fn starts_of(positions: &[u16], d: usize) -> [usize; STARTS]
     requires { (d ≤ length positions.now) × (d ≤ most_d) }
-    ensures fact_1 { (length result ≡ row_starts) × ((i : ℕ) → i < d → get_or result i 0 ≡ row_at (get_or positions.now i 0)) }
+    ensures fact_1 { ((i : ℕ) → i < d → get_or result i 0 ≡ row_at (get_or positions.now i 0)) }
     ensures fact_2 { ((i : ℕ) → d ≤ i → i < row_starts → get_or result i 0 ≡ empty_row) }
 {
-    let mut s = no_starts();
-    let mut i = 0;
-    while i < d {
+    let mut s = [EMPTY; STARTS];
+    for i in 0..d {
         let b = positions[i] as usize;
         s[i] = b % 8 * ROW + b / 8;
-        i += 1;
     }
     s
 }
 
-fn no_counters() -> [u64; COUNTERS]
-    ensures { result ≡ replicate planes_words 0 }
-{
-    [0u64; COUNTERS]
-}
-
 // For each bit below r, how many of the d positions have it set in the rows. Block by block, so that the planes in work
 // stay near.
-pub fn counters(r: usize, positions: &[u16], d: usize, f: &[u8]) -> [u64; COUNTERS]
+pub fn counters(r: usize, positions: &[u16], d: usize, rows: &Rows) -> [u64; COUNTERS]
     requires fact_1 { (r < word_bits) × (d ≤ length positions.now) × (d ≤ most_d) }
     requires fact_2 { ((i : ℕ) → i < d → get_or positions.now i 0 < r) }
-    requires fact_3 { (length f.now ≡ rows_bytes) × ((k : ℕ) → k < 8 * (blocks * block_bytes) → bits 8 f.now (8 * empty_row + k) ≡ false) }
-    ensures fact_1 { ((j : ℕ) → j < r → counter_at result j ≡ total d (λ i. bit (bits 8 f.now (8 * row_at (get_or positions.now i 0) + j)))) }
+    ensures fact_1 { ((j : ℕ) → j < r → counter_at result j ≡ total d (λ i. bit (bits 8 rows.now.bytes (8 * row_at (get_or positions.now i 0) + j)))) }
     ensures fact_2 { ((j : ℕ) → j < r → counter_at result j ≤ most_d) }
 {
     let starts = starts_of(positions, d);
     let n = (r / 64 + BLOCK_WORDS) / BLOCK_WORDS;
-    let mut p = no_counters();
-    let mut b = 0;
-    while b < n {
-        count_block(&mut p, f, &starts, d, BLOCK_WORDS * b);
-        b += 1;
+    let mut p = filled(0);
+    for b in 0..n {
+        count_block(&mut p, &rows.bytes, &starts, d, BLOCK_WORDS * b);
     }
     p
 }
@@ -211,10 +195,8 @@ fn masks(bound: u16) -> [u64; PLANES]
 {
     let b = bound as u64;
     let mut clear = [0u64; PLANES];
-    let mut k = 0;
-    while k < PLANES {
-        clear[k] = 0xffffffffffffffff * (1 - ((b >> k) | (b >> PLANES)) % 2);
-        k += 1;
+    for k in 0..PLANES {
+        clear[k] = u64::MAX * (1 - ((b >> k) | (b >> PLANES)) % 2);
     }
     clear
 }
@@ -223,32 +205,28 @@ fn masks(bound: u16) -> [u64; PLANES]
 fn reached(q: [u64; PLANES], clear: [u64; PLANES]) -> u64
     ensures { (e : ℕ) → e < 64 → bit_at result e ≡ reaches_at clear q e }
 {
-    let mut g = 0xffffffffffffffff;
-    let mut k = 0;
-    while k < PLANES {
+    let mut g = u64::MAX;
+    for k in 0..PLANES {
         g = (g & q[k]) | ((g ^ q[k]) & clear[k]);
-        k += 1;
     }
     g
 }
 
-fn compared(p: &[u64], clear: [u64; PLANES], n: usize) -> [u64; WORDS]
-    requires { (length p.now ≡ planes_words) × (n ≤ words) }
+fn compared(p: &[u64; COUNTERS], clear: [u64; PLANES], n: usize) -> [u64; WORDS]
+    requires { n ≤ words }
     ensures fact_1 { InRing (64 * n) (bits 64 result) }
     ensures fact_2 { ((j : ℕ) → j < 64 * n → bits 64 result j ≡ reaches_at clear (column p.now (j / 64)) (j % 64)) }
 {
-    let mut x = zeros();
-    let mut i = 0;
-    while i < n {
+    let mut x = filled(0);
+    for i in 0..n {
         x[i] = reached(column_of(p, i), clear);
-        i += 1;
     }
     x
 }
 
 // The bits below r whose counter reaches the bound.
-pub fn reaching(r: usize, p: &[u64], bound: u16) -> [u64; WORDS]
-    requires { (r < word_bits) × (length p.now ≡ planes_words) × (bound < 256) × ((j : ℕ) → j < r → counter_at p.now j ≤ most_d) }
+pub fn reaching(r: usize, p: &[u64; COUNTERS], bound: u16) -> [u64; WORDS]
+    requires { (r < word_bits) × (bound < 256) × ((j : ℕ) → j < r → counter_at p.now j ≤ most_d) }
     ensures { bits 64 result ≡ (λ j. ltb j r && leb bound (counter_at p.now j)) }
 {
     cut(r, compared(p, masks(bound), r / 64 + 1))

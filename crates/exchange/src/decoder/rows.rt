@@ -1,13 +1,14 @@
 // A polynomial as rows of bytes: eight copies twice in a row, each a bit further down, and behind them a row of zeros.
 // A window at any bit is then a run of bytes, and a product by few terms is a sum of such runs.
-ghost use Rattle.std.specs.Prelude.{◌≡◌, [], ◌∷◌, ◌++◌, ℕ, ◌+◌, ◌*◌, ◌/◌, ◌≤◌, ◌<◌, length, get_or, drop, replicate, take};
+ghost use Rattle.std.specs.Prelude.{◌≡◌, [], ◌∷◌, ◌++◌, ℕ, ◌+◌, ◌*◌, ◌/◌, ◌≤◌, ◌<◌, length, get_or, drop, take};
 ghost use Rattle.hashing.specs.Lists.{tab, bit_at, bits};
 ghost use Rattle.ring.specs.inner.Sizes.{words, word_bits, most_d};
 ghost use Rattle.ring.specs.Bytes.{list_of};
 ghost use Rattle.ring.specs.Polynomials.{Poly, InRing, flip, parity, terms, mul};
 ghost use Rattle.exchange.specs.inner.ByteRows;
-ghost use Rattle.exchange.specs.inner.ByteRows.{block_bytes, blocks, row_bytes, empty_row, rows_bytes, Room, ByteRows, turned_row};
+ghost use Rattle.exchange.specs.inner.ByteRows.{block_bytes, blocks, row_bytes, empty_row, rows_bytes, EmptyRow, ByteRows, turned_row};
 
+use hashing::fill::filled;
 use hashing::lanes::lay_eight;
 use ring::sparse::join;
 use ring::{WORDS, words};
@@ -25,33 +26,32 @@ pub const EMPTY: usize = 8 * ROW;
 pub const ROWS: usize = EMPTY + BLOCKS * BLOCK;
 
 // The bytes of a window.
-const WINDOW: usize = BLOCKS * BLOCK;
+pub const WINDOW: usize = BLOCKS * BLOCK;
 
-pub fn blank_rows() -> [u8; ROWS]
-    ensures { result ≡ replicate rows_bytes 0 }
-{
-    [0u8; ROWS]
+// The copies of a polynomial, and behind them the zeros, to which nothing is written.
+#[derive(Drop)]
+pub struct Rows {
+    pub bytes: [u8; ROWS],
+    pub ghost empty: { EmptyRow bytes },
 }
 
 // The words after that of r: what stands r places before.
-fn again(r: usize, x: &[u64], f: &mut [u8])
-    requires fact_1 { (64 ≤ r) × (r < word_bits) × (length x.now ≡ words) × (length f.old ≡ rows_bytes) }
+fn again(r: usize, x: &[u64; WORDS], f: &mut [u8; ROWS])
+    requires fact_1 { (64 ≤ r) × (r < word_bits) }
     requires fact_2 { InRing r (bits 64 x.now) }
     requires fact_3 { f.old ≡ list_of 8 (8 * (r / 64 + 1)) (ByteRows.twice r (bits 64 x.now)) ++ drop (8 * (r / 64 + 1)) f.old }
     ensures { f.new ≡ list_of 8 (8 * ((2 * r + 63) / 64)) (ByteRows.twice r (bits 64 x.now))
         ++ drop (8 * ((2 * r + 63) / 64)) f.old }
 {
-    let mut j = r / 64 + 1;
-    while j < (2 * r + 63) / 64 {
+    for j in r / 64 + 1..(2 * r + 63) / 64 {
         let from = 64 * j - r;
         let w = join(x[from / 64], words::word(x, from / 64 + 1), from % 64);
         lay_eight(w, f, 8 * j);
-        j += 1;
     }
 }
 
-fn twice(r: usize, x: [u64; WORDS], f: &mut [u8])
-    requires fact_1 { (64 ≤ r) × (r < word_bits) × (length f.old ≡ rows_bytes) }
+fn twice(r: usize, x: [u64; WORDS], f: &mut [u8; ROWS])
+    requires fact_1 { (64 ≤ r) × (r < word_bits) }
     requires fact_2 { InRing r (bits 64 x) }
     ensures { f.new ≡ list_of 8 (8 * ((2 * r + 63) / 64)) (ByteRows.twice r (bits 64 x))
         ++ drop (8 * ((2 * r + 63) / 64)) f.old }
@@ -71,35 +71,34 @@ fn joined(low: u8, high: u8, s: usize) -> u8
 }
 
 // The first n bytes of seven copies. One flat array and literal distances, so that the loop is vectorised.
-fn copies(f: &mut [u8], n: usize)
-    requires { (length f.old ≡ rows_bytes) × (n < row_bytes) }
+fn copies(f: &mut [u8; ROWS], n: usize)
+    requires { n < row_bytes }
     ensures fact_1 { ((s k : ℕ) → s < 8 → k < 8 * n → bits 8 f.new (8 * (s * row_bytes) + k) ≡ bits 8 f.old (s + k)) }
     ensures fact_2 { ((i : ℕ) → empty_row ≤ i → get_or f.new i 0 ≡ get_or f.old i 0) }
 {
-    let mut i = 0;
-    while i < n {
+    for i in 0..n {
         let low = f[i];
         let high = f[i + 1];
-        f[ROW + i] = joined(low, high, 1);
-        f[2 * ROW + i] = joined(low, high, 2);
-        f[3 * ROW + i] = joined(low, high, 3);
-        f[4 * ROW + i] = joined(low, high, 4);
-        f[5 * ROW + i] = joined(low, high, 5);
-        f[6 * ROW + i] = joined(low, high, 6);
-        f[7 * ROW + i] = joined(low, high, 7);
-        i += 1;
+        for s in 1..8 {
+            f[s * ROW + i] = joined(low, high, s);
+        }
     }
 }
 
-// The rows of x, whatever stood there before.
-pub fn rows(r: usize, x: [u64; WORDS], f: &mut [u8])
-    requires fact_1 { (64 ≤ r) × (r < word_bits) }
-    requires fact_2 { InRing r (bits 64 x) }
-    requires fact_3 { Room f.old }
-    ensures { ByteRows r (bits 64 x) f.new }
-{
-    twice(r, x, f);
-    copies(f, 16 * (r / 64 + 1));
+impl Rows {
+    pub fn blank() -> Rows {
+        Rows { bytes: filled(0) }
+    }
+
+    // The rows of x, whatever stood there before.
+    pub fn set(&mut self, r: usize, x: [u64; WORDS])
+        requires fact_1 { (64 ≤ r) × (r < word_bits) }
+        requires fact_2 { InRing r (bits 64 x) }
+        ensures { ByteRows r (bits 64 x) self.new.bytes }
+    {
+        twice(r, x, &mut self.bytes);
+        copies(&mut self.bytes, 16 * (r / 64 + 1));
+    }
 }
 
 // Where the row of x X^p starts, and past the d positions where the zeros do.
@@ -121,92 +120,64 @@ fn eight_starts(r: usize, positions: &[u16], d: usize, i: usize) -> [usize; 8]
     requires fact_2 { ((k : ℕ) → k < d → get_or positions.now k 0 < r) }
     ensures { result ≡ tab 8 (λ m. turned_row r positions.now d (i + m)) }
 {
-    [
-        start(r, positions, d, i),
-        start(r, positions, d, i + 1),
-        start(r, positions, d, i + 2),
-        start(r, positions, d, i + 3),
-        start(r, positions, d, i + 4),
-        start(r, positions, d, i + 5),
-        start(r, positions, d, i + 6),
-        start(r, positions, d, i + 7),
-    ]
-}
-
-// Byte i of the row that starts at `at`.
-fn byte(f: &[u8], at: usize, i: usize) -> u8
-    requires { at + i < length f.now }
-    ensures { result ≡ get_or f.now (at + i) 0 }
-{
-    f[at + i]
+    let mut at = [0; 8];
+    for m in 0..8 {
+        at[m] = start(r, positions, d, i + m);
+    }
+    at
 }
 
 // The sum of byte i of eight rows.
-fn eight(f: &[u8], at: [usize; 8], i: usize) -> u8
-    requires { (m : ℕ) → m < 8 → get_or at m 0 + i < length f.now }
+fn eight(f: &[u8; ROWS], at: [usize; 8], i: usize) -> u8
+    requires { (m : ℕ) → m < 8 → get_or at m 0 + i < rows_bytes }
     ensures { (e : ℕ) → e < 64 → bit_at result e ≡ parity 8 (λ m. bit_at (get_or f.now (get_or at m 0 + i) 0) e) }
 {
-    byte(f, at[0], i)
-        ^ byte(f, at[1], i)
-        ^ byte(f, at[2], i)
-        ^ byte(f, at[3], i)
-        ^ byte(f, at[4], i)
-        ^ byte(f, at[5], i)
-        ^ byte(f, at[6], i)
-        ^ byte(f, at[7], i)
+    let mut sum = 0;
+    for m in 0..8 {
+        sum = sum ^ f[at[m] + i];
+    }
+    sum
 }
 
 // Adds the first n bytes of eight rows.
-fn add_rows(z: &mut [u8], f: &[u8], at: [usize; 8], n: usize)
-    requires { (n ≤ length z.old) × ((m : ℕ) → m < 8 → get_or at m 0 + n ≤ length f.now) }
+fn add_rows(z: &mut [u8; WINDOW], f: &[u8; ROWS], at: [usize; 8], n: usize)
+    requires { (n ≤ blocks * block_bytes) × ((m : ℕ) → m < 8 → get_or at m 0 + n ≤ rows_bytes) }
     ensures { (k : ℕ) → k < 8 * n → bits 8 z.new k
         ≡ flip (bits 8 z.old k) (parity 8 (λ m. bits 8 f.now (8 * get_or at m 0 + k))) }
 {
-    let mut i = 0;
-    while i < n {
+    for i in 0..n {
         z[i] = z[i] ^ eight(f, at, i);
-        i += 1;
     }
 }
 
 // Adds the product of what the rows hold by the terms of the positions, eight terms in a pass.
-fn add_turned(r: usize, positions: &[u16], d: usize, f: &[u8], z: &mut [u8])
-    requires fact_1 { (64 ≤ r) × (r < word_bits) × (d ≤ length positions.now) × (d ≤ most_d) × (length z.old ≡ blocks * block_bytes) }
+fn add_turned(r: usize, positions: &[u16], d: usize, rows: &Rows, z: &mut [u8; WINDOW])
+    requires fact_1 { (64 ≤ r) × (r < word_bits) × (d ≤ length positions.now) × (d ≤ most_d) }
     requires fact_2 { ((i : ℕ) → i < d → get_or positions.now i 0 < r) }
-    requires fact_3 { Room f.now }
-    ensures { (x : Poly) → ByteRows r x f.now → (k : ℕ) → k < r → bits 8 z.new k
+    ensures { (x : Poly) → ByteRows r x rows.now.bytes → (k : ℕ) → k < r → bits 8 z.new k
         ≡ flip (bits 8 z.old k) (mul r (terms r (take d positions.now)) x k) }
 {
-    let mut i = 0;
-    while i < d {
-        add_rows(z, f, eight_starts(r, positions, d, i), 32 * (r / 256 + 1));
-        i += 8;
+    for pass in 0..(d + 7) / 8 {
+        let at = eight_starts(r, positions, d, 8 * pass);
+        add_rows(z, &rows.bytes, at, 32 * (r / 256 + 1));
     }
 }
 
-// Adds the product of x by the terms of the positions. Its rows are made in f.
+// Adds the product of x by the terms of the positions.
 pub fn add_product(
     r: usize,
     positions: &[u16],
     d: usize,
     x: [u64; WORDS],
-    f: &mut [u8],
-    z: &mut [u8],
+    rows: &mut Rows,
+    z: &mut [u8; WINDOW],
 )
-    requires fact_1 { (64 ≤ r) × (r < word_bits) × (d ≤ length positions.now) × (d ≤ most_d) × (length z.old ≡ blocks * block_bytes) }
+    requires fact_1 { (64 ≤ r) × (r < word_bits) × (d ≤ length positions.now) × (d ≤ most_d) }
     requires fact_2 { ((i : ℕ) → i < d → get_or positions.now i 0 < r) }
     requires fact_3 { InRing r (bits 64 x) }
-    requires fact_4 { Room f.old }
-    ensures fact_1 { ((k : ℕ) → k < r → bits 8 z.new k
-        ≡ flip (bits 8 z.old k) (mul r (terms r (take d positions.now)) (bits 64 x) k)) }
-    ensures fact_2 { Room f.new }
+    ensures { (k : ℕ) → k < r → bits 8 z.new k
+        ≡ flip (bits 8 z.old k) (mul r (terms r (take d positions.now)) (bits 64 x) k) }
 {
-    rows(r, x, f);
-    add_turned(r, positions, d, f, z);
-}
-
-pub fn blank_window() -> [u8; WINDOW]
-    ensures { result ≡ replicate (blocks * block_bytes) 0 }
-{
-    [0u8; WINDOW]
+    rows.set(r, x);
+    add_turned(r, positions, d, rows, z);
 }

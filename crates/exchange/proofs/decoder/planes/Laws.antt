@@ -69,11 +69,6 @@ carry_digit false false n m w h = omega arith
 pub carry_on : (a c : Bool) (k n m : ℕ) → m + bit a * 2 ^ k ≡ n + bit (xor a c) * 2 ^ k → m + bit (a && c) * 2 ^ (k + 1) ≡ n + bit c * 2 ^ k
 carry_on a c k n m h = rw (add-one k, pow-suc 2 k) (carry_digit a c n m (2 ^ k) h)
 
--- what is carried out of the last digit is 0 where the sum has room
-pub carry_out : (c : Bool) (n sum w : ℕ) → sum < w → n + bit c * w ≡ sum → n ≡ sum
-carry_out true n sum w small is = absurd (omega arith)
-carry_out false n sum w small is = omega arith
-
 pub set_three : (q : List ℕ) (x y z e : ℕ) → length q ≡ planes
     → number_at (set (set (set q 0 x) 1 y) 2 z) e + (bit (bit_at (get_or q 0 0) e) + 2 * bit (bit_at (get_or q 1 0) e) + 4 * bit (bit_at (get_or q 2 0) e))
     ≡ number_at q e + (bit (bit_at x e) + 2 * bit (bit_at y e) + 4 * bit (bit_at z e))

@@ -1,16 +1,16 @@
 -- Laws of a polynomial twice in a row, of its bytes, and of the copies further down. Assumes nothing.
 use mathlib.Core.Path.{◌≡◌, refl, sym, ap, ap₂, ◌∙◌}
-use mathlib.Core.Bool.{Bool, false, ◌||◌, ◌&&◌, or-false}
+use mathlib.Core.Bool.{Bool, ◌||◌, ◌&&◌, or-false}
 use mathlib.Core.List.{List, [], ◌∷◌, ◌++◌}
-use Prim.Native.Nat.{ℕ, zero, suc, ◌+◌, ◌-◌, ◌*◌, ◌/◌, ◌%◌, ◌^◌, ◌≤◌, ◌<◌}
-use native.Mathlib.Nat.{mod-eq_of_lt, mod-eq-sub-mod, mod-lt, le_refl}
-use native.Mathlib.Decide.{dec_lt, ℕ_discrete}
+use Prim.Native.Nat.{ℕ, ◌+◌, ◌-◌, ◌*◌, ◌/◌, ◌%◌, ◌^◌, ◌≤◌, ◌<◌}
+use native.Mathlib.Nat.{mod-eq_of_lt, mod-eq-sub-mod, mod-lt}
+use native.Mathlib.Decide.{dec_lt}
 use native.Mathlib.Omega.{arith}
 use borrow.Author.Tests.{lt-ltb, le-ltb, le-leb}
 use lib.Bits.{bit_or, bit_xor}
 use lib.Dec.{ltb, lit<}
-use lib.ListN.{length, get_or, set, drop, take, replicate, length-set, length-append, length-drop, get_or-append}
-use lib.Seq.{get_or-set_same, get_or-set_other, get_or-append-add, get_or-take, get_or-drop, drop-append-add, drop-drop}
+use lib.ListN.{length, get_or, drop, take, replicate, get_or-append}
+use lib.Seq.{get_or-append-add, get_or-take, get_or-drop, drop-append-add, drop-drop}
 use Rattle.hashing.specs.Lists.{tab, bit_at, bits}
 use Rattle.hashing.specs.inner.Parts.{overwritten}
 use Rattle.hashing.proofs.Lists.{tab_ext}
@@ -25,8 +25,7 @@ use Rattle.ring.proofs.Layouts.{list_of-length, list_of_at}
 use Rattle.ring.proofs.Packed.{bits_set_same}
 use Rattle.ring.proofs.Parity.{parity_ext}
 use Rattle.ring.proofs.sparse.Laws.{filled_up, term_more, windows_product}
-use Rattle.exchange.specs.inner.ByteRows.{block_bytes, blocks, row_bytes, empty_row, rows_bytes, row_at, Room, ByteRows, twice, turned_row}
-use Rattle.exchange.proofs.decoder.Totals.{blank_length}
+use Rattle.exchange.specs.inner.ByteRows.{row_bytes, empty_row, rows_bytes, row_at, EmptyRow, ByteRows, twice, turned_row}
 use Rattle.exchange.proofs.decoder.Laws.{below_in}
 
 -- x in the first place, and in the second
@@ -73,9 +72,6 @@ module _ (m : ℕ) (P : Poly) (l : List ℕ) where
 
   long : length (list_of 8 m P) ≡ m
   long = list_of-length 8 (lit< tt) m P
-
-  pub filled_length : m ≤ length l → length filled ≡ length l
-  filled_length room = length-append (list_of 8 m P) (drop m l) ∙ ap₂ ◌+◌ long (length-drop m l) ∙ omega arith
 
   pub filled_bits : (k : ℕ) → k < 8 * m → bits 8 filled k ≡ P k
   filled_bits =
@@ -140,37 +136,6 @@ two_bytes f i k below = go (dec_lt k 8)
     go (no second) =
         bits_at 8 _ 1 (k - 8) (omega arith) (omega arith) ∙ sym (bits_at 8 f (i + 1) (k - 8) (omega arith) (omega arith))
 
--- byte i of the first n copies further down is stored, v s in copy s
-unfoldable pub stored : ℕ → List ℕ → ℕ → (ℕ → ℕ) → List ℕ
-stored zero f i v = f
-stored (suc n) f i v = set (stored n f i v) (suc n * row_bytes + i) (v (suc n))
-
-module _ (f : List ℕ) (i : ℕ) (v : ℕ → ℕ) where
-  pub stored_length : (n : ℕ) → length (stored n f i v) ≡ length f
-  unfolding stored
-  stored_length zero = refl
-  stored_length (suc n) = length-set (stored n f i v) (suc n * row_bytes + i) (v (suc n)) ∙ stored_length n
-
-  pub stored_other : (n k : ℕ) → ((s : ℕ) → 0 < s → s ≤ n → k ≡ s * row_bytes + i → ⊥) → get_or (stored n f i v) k 0 ≡ get_or f k 0
-  unfolding stored
-  stored_other zero k other = refl
-  stored_other (suc n) k other =
-      get_or-set_other (stored n f i v) (suc n * row_bytes + i) k (v (suc n)) 0 (other (suc n) (omega arith) (le_refl (suc n)))
-      ∙ stored_other n k (λ s some few. other s some (omega arith))
-
-  pub stored_same : (n s : ℕ) → 0 < s → s ≤ n → n * row_bytes + i < length f → get_or (stored n f i v) (s * row_bytes + i) 0 ≡ v s
-  unfolding stored
-  stored_same zero s some few room = absurd (omega arith)
-  stored_same (suc n) s some few room = go (ℕ_discrete s (suc n)) (stored_same n s some)
-    where
-      go : Dec (s ≡ suc n) → (s ≤ n → n * row_bytes + i < length f → get_or (stored n f i v) (s * row_bytes + i) 0 ≡ v s)
-          → get_or (stored (suc n) f i v) (s * row_bytes + i) 0 ≡ v s
-      go (yes last) before =
-          rw last (get_or-set_same (stored n f i v) (suc n * row_bytes + i) (v (suc n)) 0 (rw (stored_length n) room))
-      go (no lower) before =
-          get_or-set_other (stored n f i v) (suc n * row_bytes + i) (s * row_bytes + i) (v (suc n)) 0 (λ e. omega arith)
-          ∙ before (omega arith) (omega arith)
-
 -- the windows of what was laid twice and copied
 module _ (r : ℕ) (x : Poly) (d f f₀ : List ℕ) (big : 64 ≤ r) (small : r < word_bits)
     (laid-twice : d ≡ list_of 8 (8 * ((2 * r + 63) / 64)) (twice r x) ++ drop (8 * ((2 * r + 63) / 64)) f₀)
@@ -185,8 +150,7 @@ module _ (r : ℕ) (x : Poly) (d f f₀ : List ℕ) (big : 64 ≤ r) (small : r 
       ∙ ap₂ (bits 8) laid-twice whole ∙ filled_bits (8 * ((2 * r + 63) / 64)) (twice r x) f₀ (b + k) (omega arith)
       ∙ twice-turned r x (b + k) (omega arith)
 
-  pub still_empty : ((k : ℕ) → k < 8 * (blocks * block_bytes) → bits 8 f₀ (8 * empty_row + k) ≡ false)
-      → (k : ℕ) → k < 8 * (blocks * block_bytes) → bits 8 f (8 * empty_row + k) ≡ false
+  pub still_empty : EmptyRow f₀ → EmptyRow f
   still_empty empty k below =
       let at : 8 * empty_row + k ≡ 8 * (empty_row + k / 8) + k % 8 = omega arith in
       bits_at 8 f (empty_row + k / 8) (k % 8) at (omega arith)
@@ -195,16 +159,10 @@ module _ (r : ℕ) (x : Poly) (d f f₀ : List ℕ) (big : 64 ≤ r) (small : r 
       ∙ filled_past (8 * ((2 * r + 63) / 64)) (twice r x) f₀ (empty_row + k / 8) (omega arith))
       ∙ sym (bits_at 8 f₀ (empty_row + k / 8) (k % 8) at (omega arith)) ∙ empty k below
 
--- eight of a kind
-pub tab_eight : (f : ℕ → ℕ) {a b c d e g h i : ℕ} → a ≡ f 0 → b ≡ f 1 → c ≡ f 2 → d ≡ f 3 → e ≡ f 4 → g ≡ f 5 → h ≡ f 6 → i ≡ f 7
-    → (a ∷ b ∷ c ∷ d ∷ e ∷ g ∷ h ∷ i ∷ []) ≡ tab 8 f
-unfolding tab
-tab_eight f a b c d e g h i = rw (a, b, c, d, e, g, h, i)
-
 -- room that was never written to
-pub blank_room : {f : List ℕ} → f ≡ replicate rows_bytes 0 → Room f
-blank_room blank =
-    (blank_length rows_bytes blank, λ k below. ap (λ (xs : List ℕ). bits 8 xs (8 * empty_row + k)) blank ∙ bits_none 8 rows_bytes (8 * empty_row + k))
+pub blank_room : {f : List ℕ} → f ≡ replicate rows_bytes 0 → EmptyRow f
+blank_room blank k below =
+    ap (λ (xs : List ℕ). bits 8 xs (8 * empty_row + k)) blank ∙ bits_none 8 rows_bytes (8 * empty_row + k)
 
 -- the first n bytes of a list
 pub taken-bits : (z : List ℕ) (n k : ℕ) → k < 8 * n → bits 8 (take n z) k ≡ bits 8 z k
@@ -236,7 +194,7 @@ module _ (r : ℕ) (big : 64 ≤ r) (x : Poly) (f positions : List ℕ) (d : ℕ
   unfolding window
   turned i k h low =
       let start : r - get_or positions i 0 ≤ r = omega arith in
-      ap (λ (at : ℕ). bits 8 f (8 * at + k)) (turned-row r positions d i h) ∙ held.1 (r - get_or positions i 0) k start low
+      ap (λ (at : ℕ). bits 8 f (8 * at + k)) (turned-row r positions d i h) ∙ held (r - get_or positions i 0) k start low
       ∙ rw (le-leb (r - get_or positions i 0) r start) refl
 
   pub rows_product : (k : ℕ) → k < r → parity d (λ i. bits 8 f (8 * turned_row r positions d i + k)) ≡ mul r (terms r (take d positions)) x k

@@ -1,17 +1,12 @@
 -- `write` stores what the decoder finds under the key that was read.
-use mathlib.Core.Path.{◌≡◌, ap₂, ◌∙◌}
+use mathlib.Core.Path.{ap, ap₂, ◌∙◌}
 use native.Mathlib.Omega.{arith}
-use lib.ListN.{length}
-use Rattle.hashing.specs.Lists.{bits}
 use Rattle.ring.specs.Bytes.{list_of, bytes_of}
 use Rattle.ring.specs.Levels.{level_of}
-use Rattle.ring.specs.Polynomials.{Poly}
 use Rattle.ring.proofs.Layouts.{pad_rule}
 use Rattle.ring.proofs.Levels.{sizes}
 use Rattle.exchange.specs.decoder.Decoder.{Pair, bgf, failed, found}
-use Rattle.exchange.specs.decoder.PrivateKey.{secret}
-use Rattle.exchange.specs.inner.Working.{key_of}
-use Rattle.exchange.proofs.Judged.{DecodingClear, decoding_clear}
+use Rattle.exchange.proofs.Judged.{decoding_clear}
 use Rattle.exchange.proofs.decoder.Laws.{read_secret, good_read}
 use Rattle.exchange.proofs.decoding.write.Goals as goal
 
@@ -29,10 +24,11 @@ returns c =
     let l = level_of c.args.level in
     let is = decoding_clear c.requires in
     let key = read_secret _ c.read_key.result _ (c.read_key.ensures.fact_1, c.read_key.ensures.fact_2) in
-    let s = c.load.ensures in (
+    let s = c.load.ensures in
+    let error = c.find-found.ensures.1 ∙ ap₂ (found bgf l) key s in (
       c.find-found.ensures.0 ∙ ap₂ (failed bgf l) key s,
-      c.store.ensures ∙ ap₂ (list_of 8) is.room0_is (c.find-found.ensures.1 ∙ ap₂ (λ (h : Pair) (p : Poly). (found bgf l h p).half0) key s),
-      c.store-2.ensures ∙ ap₂ (list_of 8) is.room1_is (c.find-found.ensures.2 ∙ ap₂ (λ (h : Pair) (p : Poly). (found bgf l h p).half1) key s),
+      c.store.ensures ∙ ap₂ (list_of 8) is.room0_is (ap (λ (p : Pair). p.half0) error),
+      c.store-2.ensures ∙ ap₂ (list_of 8) is.room1_is (ap (λ (p : Pair). p.half1) error),
     )
 
 pub read_key-requires : goal.read_key-requires

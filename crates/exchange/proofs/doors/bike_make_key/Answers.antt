@@ -1,28 +1,25 @@
--- `bike_make_key` gives what key making gives, and the report's bytes.
+-- `bike_make_key` clears its outputs where nothing was made.
 use mathlib.Core.Path.{sym, ◌∙◌}
-use Rattle.hashing.proofs.Answers.{refused, first_stays, first_after}
+use Rattle.hashing.proofs.Answers.{done, refuses}
 use Rattle.exchange.specs.Doors.{make_key_door_says}
-use Rattle.exchange.specs.Promises.{make_key_says}
-use Rattle.exchange.proofs.Judged.{making_numbered, making_door_numbered, making_door_clear}
-use Rattle.exchange.proofs.doors.Laws.{with_report}
+use Rattle.exchange.proofs.Judged.{failed, got}
 use Rattle.exchange.proofs.doors.bike_make_key.Goals as goal
-
-pub returns-then-answer-ne0 : goal.returns-then-answer-ne0
-unfolding make_key_door_says
-returns-then-answer-ne0 c =
-    let first = c.making_door-answer.ensures in
-    let is = first ∙ sym (first_stays _ _ (λ none. c.if-answer-ne0.true (first ∙ none))) in
-    rw (c.three.ensures.0, c.three.ensures.1, c.three.ensures.2, c.three.ensures.3)
-    (sym (refused _ _ is c.if-answer-ne0.true))
-
-pub write_report-requires : goal.write_report-requires
-write_report-requires c =
-    (making_door_clear _ _ _ _ _ (sym c.making_door-answer.ensures ∙ c.if-answer-ne0.false)).1
+use Rattle.exchange.proofs.doors.bike_make_key.Goals.{then-is_err, else-is_err}
 
 pub returns : goal.returns
-unfolding make_key_says make_key_door_says
+unfolding make_key_door_says
 returns c =
-    let none = sym c.making_door-answer.ensures ∙ c.if-answer-ne0.false in
-    let clear = making_door_clear _ _ _ _ _ none in
-    let same = first_after _ _ (making_door_numbered _ _ _ _ _) none ∙ sym (first_after _ _ (making_numbered _ _ _ _) clear.0) in
-    rw c.write_report.ensures (with_report _ _ _ _ _ _ same clear.1 c.make_key-made.ensures.make_key_promise c.make_key-made.ensures.key_count_promise)
+    let says = c.make_key-made.ensures in
+    let lengths = c.make_key-made.auto in
+    elim c.if-is_err.branch [
+      | then-is_err w ↦
+          let why = failed c.make_key-made.result (sym c.is_err.ensures.value ∙ w.if-is_err.true) in
+          let first = rw why.1 at says.answered in
+          rw (w.public_key-is, w.private_key-is, w.report-is, w.zero.ensures, w.zero-then-is_err.ensures, w.zero-then-is_err-2.ensures, lengths.public_key, lengths.private_key, lengths.report, c.answer.ensures, why.1)
+          (sym (refuses _ _ why.0 first))
+      | else-is_err w ↦
+          let made = got c.make_key-made.result (sym c.is_err.ensures.value ∙ w.if-is_err.false) says.made in
+          let is = made.2 in
+          rw (w.public_key-is, w.private_key-is, w.report-is, c.answer.ensures, made.1, is.0, is.1, is.2)
+          (sym (done _ _ (sym (rw made.1 at says.answered))))
+    ]

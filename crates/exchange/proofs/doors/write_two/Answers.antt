@@ -1,5 +1,5 @@
 -- `write_two` writes one number after the other.
-use mathlib.Core.Path.{◌≡◌, sym, ap₂, ◌∙◌}
+use mathlib.Core.Path.{◌≡◌, ap₂, ◌∙◌}
 use mathlib.Core.List.{◌++◌}
 use native.Mathlib.Omega.{arith}
 use lib.ListN.{length, take}
@@ -15,9 +15,3 @@ pub returns : goal.returns
 returns c =
     two_parts _ c.copy.new.out c.copy-2.new.out c.args.out.now (c.copy.auto.out ∙ cut (goal.at.returns c).Start)
     ∙ ap₂ ◌++◌ (c.copy.ensures ∙ c.four_bytes-b0.ensures) (c.copy-2.ensures ∙ c.four_bytes-b1.ensures)
-
-pub slice_bounds-copy-end-3 : goal.slice_bounds-copy-end-3
-slice_bounds-copy-end-3 c = sym (cut (goal.at.slice_bounds-copy-end-3 c).Start)
-
-pub copy-requires : goal.copy-requires
-copy-requires c = omega (arith, cut (goal.at.copy-requires c).Start)

@@ -10,8 +10,8 @@ use Rattle.exchange.proofs.error.halves.Goals as goal
 
 pub place-requires : goal.place-requires
 place-requires c =
-    let zeros = c.wide_zeros-all.ensures in
-    let long : length c.wide_zeros-all.result ≡ wide_words = ap length zeros ∙ length-replicate {A = ℕ} wide_words 0 in
+    let zeros = c.filled-all.ensures in
+    let long : length c.filled-all.result ≡ wide_words = ap length zeros ∙ length-replicate {A = ℕ} wide_words 0 in
     record {
       fact_1 = zeros ∙ ap (λ (n : ℕ). replicate n 0) (sym long);
       fact_2 = λ p listed. let below = c.requires p listed in omega (arith, long, sizes c.args.level);

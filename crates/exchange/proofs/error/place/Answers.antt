@@ -1,9 +1,8 @@
 -- `place` puts in the positions: before turn i the bits are those of the first i.
 use mathlib.Core.Path.{refl, ap, ◌∙◌, fun_ext}
-use Prim.Native.Nat.{◌≤◌, ◌<◌}
+use Prim.Native.Nat.{◌<◌}
 use native.Mathlib.Omega.{arith}
 use lib.ListN.{length, get_or}
-use lib.Seq.{take_all}
 use Rattle.hashing.specs.Lists.{bits}
 use Rattle.hashing.proofs.Words.{bits_none}
 use Rattle.ring.specs.Polynomials.{listed}
@@ -27,13 +26,3 @@ loop-i-preserved c =
     let list = c.args.list.now in
     let more : c.loop-i.i < length list = omega arith in
     (omega arith, c.put.auto.out ∙ c.loop-i.invariant.1, placed_more list c.loop-i.i more c.loop-i.invariant.2 c.put.ensures)
-
-pub returns : goal.returns
-returns c =
-    let was = c.loop-i in
-    let list = c.args.list.now in
-    let all : length list ≤ was.i = omega arith in
-    rw (take_all was.i list all) at was.invariant.2
-
-pub shape_of-out : goal.shape_of-out
-shape_of-out c = c.loop-i.invariant.1

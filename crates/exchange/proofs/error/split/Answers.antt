@@ -1,18 +1,16 @@
 -- `split` cuts the first half off, and takes it out of the sum of both.
-use mathlib.Core.Path.{◌≡◌, sym, ap, ◌∙◌}
+use mathlib.Core.Path.{◌≡◌, ap, ◌∙◌}
 use mathlib.Core.List.{List}
 use Prim.Native.Nat.{ℕ, ◌+◌, ◌/◌, ◌≤◌, ◌<◌}
 use native.Mathlib.Omega.{arith}
-use lib.ListN.{length, get_or, replicate, length-replicate}
-use lib.Seq.{length-take-le}
+use lib.ListN.{length, get_or, replicate}
 use Rattle.hashing.specs.Lists.{bits}
 use Rattle.hashing.proofs.Words.{zero_at}
 use Rattle.ring.specs.Polynomials.{Poly}
 use Rattle.ring.specs.inner.Sizes.{words}
-use Rattle.exchange.proofs.decoder.Laws.{in_words}
 use Rattle.exchange.proofs.error.Laws.{front_bits, front_in, front_half, other_half}
 use Rattle.exchange.proofs.error.split.Goals as goal
-use Rattle.exchange.proofs.error.split.Goals.{After-place, After-zeros-front, Start}
+use Rattle.exchange.proofs.error.split.Goals.{After-place, After-filled-front, Start}
 
 room : (c : Start) → c.args.r / 64 + 1 ≤ length c.args.all
 room c = omega arith
@@ -24,30 +22,15 @@ pub returns : goal.returns
 returns c =
     let r = c.args.r in
     let all = bits 64 c.args.all in
-    let e0 : Poly = bits 64 c.cut-e0.result in
-    let first : (k : ℕ) → k < r → e0 k ≡ all k = λ k below. c.cut-e0.ensures.fact_2 k below ∙ front_bits (c.args.r / 64 + 1) c.args.all c.zeros-front.result c.place.new.t (room (goal.at.returns c).Start) (blank c.zeros-front.result c.zeros-front.ensures) c.place.ensures.outside c.place.ensures.by_index k (omega arith) in (
-      front_half r all e0 c.cut-e0.ensures.fact_1 first,
-      c.sum-e1.ensures ∙ other_half r all e0 (bits 64 c.reduce.result) c.cut-e0.ensures.fact_1 first c.reduce.ensures.0 c.reduce.ensures.1,
+    let e0 : Poly = bits 64 c.cut-half0.result in
+    let first : (k : ℕ) → k < r → e0 k ≡ all k = λ k below. c.cut-half0.ensures.fact_2 k below ∙ front_bits (c.args.r / 64 + 1) c.args.all c.filled-front.result c.place.new.t (room (goal.at.returns c).Start) (blank c.filled-front.result c.filled-front.ensures) c.place.ensures.outside c.place.ensures.by_index k (omega arith) in (
+      front_half r all e0 c.cut-half0.ensures.fact_1 first,
+      c.sum-half1.ensures ∙ other_half r all e0 (bits 64 c.reduce.result) c.cut-half0.ensures.fact_1 first c.reduce.ensures.0 c.reduce.ensures.1,
     )
 
-pub slice_bounds-all-end : goal.slice_bounds-all-end
-slice_bounds-all-end c = room (goal.at.slice_bounds-all-end c).Start
-
-pub slice_bounds-place-end-2 : goal.slice_bounds-place-end-2
-slice_bounds-place-end-2 c = sym (length-take-le _ _ (room (goal.at.slice_bounds-place-end-2 c).Start))
-
-pub place-requires : goal.place-requires
-place-requires c = omega (arith, length-take-le (c.args.r / 64 + 1) c.args.all (room (goal.at.place-requires c).Start), ap length c.zeros-front.ensures, length-replicate {A = ℕ} words 0)
-
-pub cut-e0-requires : goal.cut-e0-requires
-cut-e0-requires c =
+pub cut-half0-requires : goal.cut-half0-requires
+cut-half0-requires c =
     record {
       fact_1 = c.requires.1;
-      fact_2 = front_in (c.args.r / 64 + 1) c.args.all c.zeros-front.result c.place.new.t (room (goal.at.cut-e0-requires c).Start) (blank c.zeros-front.result c.zeros-front.ensures) c.place.ensures.outside c.place.ensures.by_index;
+      fact_2 = front_in (c.args.r / 64 + 1) c.args.all c.filled-front.result c.place.new.t (room (goal.at.cut-half0-requires c).Start) (blank c.filled-front.result c.filled-front.ensures) c.place.ensures.outside c.place.ensures.by_index;
     }
-
-pub reduce-requires : goal.reduce-requires
-reduce-requires c = let pre = c.requires in omega arith
-
-pub sum-e1-requires : goal.sum-e1-requires
-sum-e1-requires c = (omega arith, in_words c.args.r c.reduce.ensures.0, in_words c.args.r c.cut-e0.ensures.fact_1)

@@ -44,9 +44,3 @@ returns c =
     let long : length given.list.now ≤ length (take was.listed was.list) = omega (arith, length-take-le was.listed was.list was.invariant.1) in
     let is = sym (draw_full given.r (length given.list.now) given.mask (drop was.used given.words.now) (held (take was.listed was.list) was.used) long) ∙ was.invariant.4 in
     (ap (λ (so : Drawn). so.positions) is, ap (λ (so : Drawn). so.used) is, omega arith)
-
-pub slice_bounds-search-end-in-loop-listed : goal.slice_bounds-search-end-in-loop-listed
-slice_bounds-search-end-in-loop-listed c = sym (length-take-le _ _ (omega arith))
-
-pub loop-listed-smaller : goal.loop-listed-smaller
-loop-listed-smaller c = simp length-set (omega arith)

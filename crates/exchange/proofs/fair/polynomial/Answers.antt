@@ -1,22 +1,19 @@
 -- `polynomial` sets the bits of the positions that were drawn.
-use mathlib.Core.Path.{◌≡◌, sym, ap, ap₂, ◌∙◌}
+use mathlib.Core.Path.{◌≡◌, sym, ap, ◌∙◌}
 use Prim.Native.Nat.{ℕ, ◌+◌, ◌≤◌}
 use native.Mathlib.Omega.{arith}
-use lib.Dec.{ltb}
 use lib.ListN.{length, replicate, length-replicate}
-use lib.Seq.{length-take-le}
 use Rattle.ring.specs.Levels.{level_of}
 use Rattle.ring.specs.Polynomials.{support}
 use Rattle.ring.specs.inner.Sizes.{words}
 use Rattle.ring.proofs.Levels.{sizes}
+use Rattle.hashing.specs.Answers.{first_of}
 use Rattle.exchange.specs.Fair.{most_words, ran_out, drawn_for}
-use Rattle.exchange.proofs.sampler.Laws.{front_long}
+use Rattle.exchange.specs.Promises.{fair_work}
+use borrow.Author.Tests.{lt-ltb, le-ltb}
 use Rattle.exchange.proofs.fair.Laws.{fair_sound, fair_used}
 use Rattle.exchange.proofs.fair.polynomial.Goals as goal
 use Rattle.exchange.proofs.fair.polynomial.Goals.{After-positions-drawn}
-
-room : (c : After-positions-drawn) → c.positions-drawn.result.listed ≤ length c.positions-drawn.result.list
-room c = front_long _ _ (ap length c.positions-drawn.ensures.0 ∙ sym c.positions-drawn.ensures.1)
 
 -- words used and positions listed are few, and what is left of the words is passed over
 counted : (c : After-positions-drawn) →
@@ -32,25 +29,27 @@ pub place-requires : goal.place-requires
 place-requires c =
     let given = c.args in
     let l = level_of given.level in
-    let zeros = c.zeros-placed.ensures in
-    let long : length c.zeros-placed.result ≡ words = ap length zeros ∙ length-replicate {A = ℕ} words 0 in
+    let zeros = c.filled-placed.ensures in
+    let long : length c.filled-placed.result ≡ words = ap length zeros ∙ length-replicate {A = ℕ} words 0 in
     let bounds = sizes given.level in
     record {
       fact_1 = zeros ∙ ap (λ (n : ℕ). replicate n 0) (sym long);
       fact_2 = rw c.positions-drawn.ensures.0 (λ p listed. let below = (fair_sound l given.words.now).within p listed in omega (arith, long));
     }
 
+pub returns-then-listed-key_weight-clause-answered : goal.returns-then-listed-key_weight-clause-answered
+unfolding fair_work ran_out first_of
+returns-then-listed-key_weight-clause-answered c =
+    rw (← c.positions-drawn.ensures.1, ← c.key_weight.ensures, lt-ltb _ _ c.if-listed-key_weight.true)
+
 pub returns : goal.returns
-unfolding support ran_out
+unfolding support fair_work ran_out first_of
 returns c =
     let is = c.positions-drawn.ensures in
-    (rw is.0 at c.place.ensures, ap₂ ltb is.1 c.key_weight.ensures, is.2, omega (arith, (counted (goal.at.returns c).After-positions-drawn).1))
-
-pub slice_bounds-list-end : goal.slice_bounds-list-end
-slice_bounds-list-end c = room (goal.at.slice_bounds-list-end c).After-positions-drawn
-
-pub slice_bounds-place-end : goal.slice_bounds-place-end
-slice_bounds-place-end c = sym (length-take-le _ _ (room (goal.at.slice_bounds-place-end c).After-positions-drawn))
+    record {
+      answered = rw (← is.1, ← c.key_weight.ensures, le-ltb _ _ c.if-listed-key_weight.false);
+      drawn = (rw is.0 at c.place.ensures, is.2, omega (arith, (counted (goal.at.returns c).After-positions-drawn).1));
+    }
 
 pub overflow_cast-result : goal.overflow_cast-result
 overflow_cast-result c = omega (arith, counted (goal.at.overflow_cast-result c).After-positions-drawn)

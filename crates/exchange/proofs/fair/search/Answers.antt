@@ -41,11 +41,6 @@ words-preserved c =
     let over : ℕ → Type 0 = λ j. given.from ≤ j → taken given.r (bit_and (get_or given.words.now j 0) given.mask) given.list.now ≡ false in
     (omega arith, omega arith, below_more over was.i was.invariant.2 (λ low. passed (goal.at.words-preserved c).Joined-pos-r))
 
-pub returns-after-words : goal.returns-after-words
-returns-after-words c =
-    let was = c.words in
-    (was.invariant.0, was.invariant.1, λ j low high. was.invariant.2 j high low, λ more. absurd (omega arith))
-
 pub returns-then-k-list : goal.returns-then-k-list
 returns-then-k-list c =
     let was = c.words in
@@ -53,10 +48,6 @@ returns-then-k-list c =
     let all : length list ≤ c.loop-k.k = omega arith in
     let new = rw (take_all c.loop-k.k list all) at c.loop-k.invariant.1 in
     (was.invariant.0, was.invariant.1, λ j low high. was.invariant.2 j high low, λ more. taken_new _ _ list c.if-pos-r.true new)
-
-pub words-init : goal.words-init
-unfolding listed
-words-init c = (omega arith, omega arith, λ j low high. absurd (omega arith))
 
 pub loop-k-init : goal.loop-k-init
 unfolding listed

@@ -1,9 +1,5 @@
 -- `wrapping` goes down the column of wrapping.
-use mathlib.Core.Path.{sym, ap, ◌∙◌}
 use Rattle.hashing.specs.Answers.{differs, first_of}
-use Rattle.hashing.proofs.Answers.{agree}
-use Rattle.ring.specs.Bytes.{byte_length}
-use Rattle.ring.proofs.Bools.{both_false}
 use Rattle.exchange.specs.Promises.{wrapping_reasons}
 use Rattle.exchange.proofs.judge.wrapping.Goals as goal
 
@@ -21,13 +17,6 @@ returns-then-public_key-polynomial c =
       ← c.polynomial.ensures,
       c.if-public_key-polynomial.true,
     )
-
-pub pad_set-requires : goal.pad_set-requires
-unfolding differs
-pad_set-requires c =
-    let two = both_false _ _ c.if-public_key-polynomial.false in
-    let one = both_false _ _ two.0 in
-    agree _ _ (both_false _ _ one.0).0 ∙ c.polynomial.ensures ∙ ap byte_length (sym c.block.ensures)
 
 pub returns-then-pad_set : goal.returns-then-pad_set
 unfolding wrapping_reasons first_of differs

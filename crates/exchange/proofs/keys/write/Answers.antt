@@ -10,7 +10,7 @@ use Rattle.ring.proofs.Inverses.{inverse_found}
 use Rattle.ring.proofs.Ring.{mul_comm}
 use Rattle.ring.proofs.Levels.{r_pos, r_odd, r_small, r_cycle, sizes}
 use Rattle.exchange.specs.Scheme.{h0_of, h1_of, sigma_of, public_of}
-use Rattle.exchange.proofs.Judged.{MakingClear, making_clear}
+use Rattle.exchange.proofs.Judged.{making_clear}
 use Rattle.exchange.proofs.Parts.{rest_all}
 use Rattle.exchange.proofs.keys.Laws.{Half, half_is, h0_half, h1_half, h0_inverts}
 use Rattle.exchange.proofs.keys.write.Goals as goal

@@ -7,7 +7,6 @@ use lib.Seq.{length-take-le}
 use Rattle.hashing.specs.Lists.{bits}
 use Rattle.ring.specs.Levels.{level_of}
 use Rattle.ring.proofs.Levels.{r_small, sizes}
-use Rattle.exchange.specs.Scheme.{two_bytes}
 use Rattle.ring.proofs.Weights.{length-rising}
 use Rattle.exchange.proofs.keys.write_half.Goals as goal
 use Rattle.exchange.proofs.keys.write_half.Goals.{After-rising-list}
@@ -28,10 +27,6 @@ room c = omega (arith, sizes c.args.level)
 pub write_numbers-requires : goal.write_numbers-requires
 write_numbers-requires c =
     rw (length-take-le _ _ (room (goal.at.write_numbers-requires c).After-rising-list)) (c.requires.fact_1 ∙ ap (◌*◌ 2) (sym c.key_weight-d.ensures))
-
-pub returns : goal.returns
-returns c =
-    c.write_numbers.ensures ∙ ap two_bytes (rw c.block.ensures at c.rising-list.ensures)
 
 pub slice_bounds-list-end : goal.slice_bounds-list-end
 slice_bounds-list-end c = room (goal.at.slice_bounds-list-end c).After-rising-list

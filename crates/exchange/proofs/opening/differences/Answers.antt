@@ -21,7 +21,7 @@ wide c inside = in_words c.block.result (rw c.block.ensures inside)
 
 first : (c : After-weight-d0) →
     let given = c.args in
-    c.weight-d0.result ≡ weight (level_of given.level).r (add (bits 64 given.e0) (bits 64 given.f.e0))
+    c.weight-d0.result ≡ weight (level_of given.level).r (add (bits 64 given.e.half0) (bits 64 given.f.half0))
 first c =
     let r = (level_of c.args.level).r in
     c.weight-d0.ensures ∙ ap (weight (64 * (c.block.result / 64 + 1))) c.sum.ensures
@@ -29,7 +29,7 @@ first c =
 
 second : (c : After-weight-d1) →
     let given = c.args in
-    c.weight-d1.result ≡ weight (level_of given.level).r (add (bits 64 given.e1) (bits 64 given.f.e1))
+    c.weight-d1.result ≡ weight (level_of given.level).r (add (bits 64 given.e.half1) (bits 64 given.f.half1))
 second c =
     let r = (level_of c.args.level).r in
     c.weight-d1.ensures ∙ ap (weight (64 * (c.block.result / 64 + 1))) c.sum-2.ensures
@@ -39,10 +39,7 @@ pub overflow_add-result : goal.overflow_add-result
 overflow_add-result c =
     let given = c.args in
     let r = (level_of given.level).r in
-    omega (arith, first (goal.at.overflow_add-result c).After-weight-d0, second (goal.at.overflow_add-result c).After-weight-d1, weight_le r (add (bits 64 given.e0) (bits 64 given.f.e0)), weight_le r (add (bits 64 given.e1) (bits 64 given.f.e1)), sizes given.level)
-
-pub overflow_add-n : goal.overflow_add-n
-overflow_add-n c = omega (arith, sizes c.args.level)
+    omega (arith, first (goal.at.overflow_add-result c).After-weight-d0, second (goal.at.overflow_add-result c).After-weight-d1, weight_le r (add (bits 64 given.e.half0) (bits 64 given.f.half0)), weight_le r (add (bits 64 given.e.half1) (bits 64 given.f.half1)), sizes given.level)
 
 pub sum-requires : goal.sum-requires
 sum-requires c = (few (goal.at.sum-requires c).After-block, wide (goal.at.sum-requires c).After-block c.requires.fact_1.0, wide (goal.at.sum-requires c).After-block c.requires.fact_2.0)

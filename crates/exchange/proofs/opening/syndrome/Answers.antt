@@ -11,7 +11,7 @@ sparse-requires c =
     let r = c.block in
     let d = c.key_weight in
     let size = sizes c.args.level in
-    let h = c.args.key.h0 in
+    let h = c.args.key.half0 in
     let few : d.result ≤ length h = omega (arith, d.ensures, c.requires.fact_1.0.0) in
     record {
       fact_1 = (omega (arith, r.ensures), omega (arith, r.ensures), few, omega (arith, d.ensures));

@@ -14,10 +14,10 @@ use Rattle.exchange.specs.decoder.Decoder.{Pair, bgf, found}
 use Rattle.exchange.specs.decoder.PrivateKey.{tail, sigma, digest_in}
 use Rattle.exchange.specs.inner.Working.{key_of, Good}
 use Rattle.exchange.specs.Opening.{syndrome_of, key_for, opened}
-use Rattle.exchange.proofs.Judged.{OpeningClear, opening_clear}
+use Rattle.exchange.proofs.Judged.{opening_clear}
 use Rattle.exchange.proofs.Parts.{rest_all}
 use Rattle.exchange.proofs.Streams.{below_take}
-use Rattle.exchange.proofs.decoder.Laws.{pair_path, bgf_in, found_in, read_secret, good_read}
+use Rattle.exchange.proofs.decoder.Laws.{bgf_in, found_in, inside_by, read_secret, good_read}
 use Rattle.exchange.proofs.opening.write.Goals as goal
 use Rattle.exchange.proofs.opening.write.Goals.{After-key_weight-at, After-load, After-polynomial-n, After-read_key-key}
 
@@ -89,8 +89,8 @@ write_session_key-requires c =
     rw size (length-take-le message_bytes rest (omega (arith, length-drop at c.args.private_key.now, room (goal.at.write_session_key-requires c).After-key_weight-at))) in
     record {
       fact_1 = (sigma_long, is.ciphertext_size, is.key_room);
-      fact_2 = rw c.find-e.ensures.1 inside.0;
-      fact_3 = rw c.find-e.ensures.2 inside.1;
+      fact_2 = (inside_by l.r c.find-e.ensures.1 inside).0;
+      fact_3 = (inside_by l.r c.find-e.ensures.1 inside).1;
     }
 
 pub returns : goal.returns
@@ -100,12 +100,10 @@ returns c =
     let l = level_of given.level in
     let c0 = bits 8 (take (poly_bytes l) given.ciphertext.now) in
     let key = read_secret _ c.read_key-key.result _ (c.read_key-key.ensures.fact_1, c.read_key-key.ensures.fact_2) in
-    let s = c.syndrome-s.ensures ∙ ap₂ (λ (a : ℕ → _) (h : Pair). mul l.r a h.half0) (c0_is (goal.at.returns c).After-load) key in (
-      c.write_session_key.ensures.0,
-      (rw (digest_is (goal.at.returns c).After-key_weight-at, sigma_is (goal.at.returns c).After-key_weight-at) at c.write_session_key.ensures.1)
-          ∙ ap (key_for l (digest_in l given.private_key.now) (sigma l given.private_key.now) given.ciphertext.now)
-          (pair_path c.find-e.ensures.1 c.find-e.ensures.2 ∙ ap₂ (found bgf l) key s),
-    )
+    let s = c.syndrome-s.ensures ∙ ap₂ (λ (a : ℕ → _) (h : Pair). mul l.r a h.half0) (c0_is (goal.at.returns c).After-load) key in
+    (rw (digest_is (goal.at.returns c).After-key_weight-at, sigma_is (goal.at.returns c).After-key_weight-at) at c.write_session_key.ensures)
+    ∙ ap (key_for l (digest_in l given.private_key.now) (sigma l given.private_key.now) given.ciphertext.now)
+    (c.find-e.ensures.1 ∙ ap₂ (found bgf l) key s)
 
 pub overflow_mul-at : goal.overflow_mul-at
 overflow_mul-at c = let fits = room (goal.at.overflow_mul-at c).After-key_weight-at in omega arith
@@ -138,9 +136,3 @@ find-e-requires c = let level = c.args.level in
 
 pub slice_bounds-write_session_key-end : goal.slice_bounds-write_session_key-end
 slice_bounds-write_session_key-end c = room (goal.at.slice_bounds-write_session_key-end c).After-key_weight-at
-
-pub slice_bounds-write_session_key-count-2 : goal.slice_bounds-write_session_key-count-2
-slice_bounds-write_session_key-count-2 c = room (goal.at.slice_bounds-write_session_key-count-2 c).After-key_weight-at
-
-pub slice_bounds-write_session_key-start-2 : goal.slice_bounds-write_session_key-start-2
-slice_bounds-write_session_key-start-2 c = room (goal.at.slice_bounds-write_session_key-start-2 c).After-key_weight-at

@@ -1,5 +1,5 @@
 -- `write_session_key` hashes m' again and chooses by the comparison.
-use mathlib.Core.Path.{◌≡◌, refl, ap, ◌∙◌}
+use mathlib.Core.Path.{◌≡◌, ap, ◌∙◌}
 use mathlib.Core.List.{List}
 use Prim.Native.Nat.{ℕ}
 use native.Mathlib.Omega.{arith}
@@ -45,36 +45,31 @@ unfolding xor_bytes
 chosen-secret-requires c =
     let bounds = sizes c.args.level in
     let r = (level_of c.args.level).r in
-    let few0 = weight_le r (add (bits 64 c.args.e0) (bits 64 c.words_of.result.words.e0)) in
-    let few1 = weight_le r (add (bits 64 c.args.e1) (bits 64 c.words_of.result.words.e1)) in
+    let few0 = weight_le r (add (bits 64 c.args.e.half0) (bits 64 c.words_of.result.words.half0)) in
+    let few1 = weight_le r (add (bits 64 c.args.e.half1) (bits 64 c.words_of.result.words.half1)) in
     (omega (arith, c.differences-differing.ensures), ap length c.message_of-m.ensures ∙ length-tab message_bytes _, c.requires.fact_1.0)
 
 message : (c : After-message_of-m) →
     let given = c.args in
-    c.message_of-m.result ≡ message_of (level_of given.level) (error_in given.e0 given.e1) given.ciphertext.now
+    c.message_of-m.result ≡ message_of (level_of given.level) (error_in given.e.half0 given.e.half1) given.ciphertext.now
 unfolding message_of hash_l
 message c = rw (c.stored.ensures.0, c.stored.ensures.1) at c.message_of-m.ensures
 
 own : (c : After-differences-differing) →
     let l = level_of c.args.level in
     eqb c.differences-differing.result 0
-    ≡ same_error l.r (error_in c.args.e0 c.args.e1) (bound_h l c.args.digest.now c.message_of-m.result)
+    ≡ same_error l.r (error_in c.args.e.half0 c.args.e.half1) (bound_h l c.args.digest.now c.message_of-m.result)
 own c =
     let l = level_of c.args.level in
     let again = c.words_of.ensures in
     rw (c.differences-differing.ensures, again.0, again.1, c.bound-tied.ensures)
-    (nothing-differs l.r (error_in c.args.e0 c.args.e1) (bound_h l c.args.digest.now c.message_of-m.result))
+    (nothing-differs l.r (error_in c.args.e.half0 c.args.e.half1) (bound_h l c.args.digest.now c.message_of-m.result))
 
 pub returns : goal.returns
 unfolding key_for
 returns c =
     let given = c.args in
     let l = level_of given.level in
-    let e = error_in given.e0 given.e1 in (
-      refl,
-      (rw (c.chosen-secret.ensures, own (goal.at.returns c).After-differences-differing) at c.write_key.ensures)
-          ∙ ap (λ (m : List ℕ). hash_k (either (same_error l.r e (bound_h l given.digest.now m)) m given.sigma.now) given.ciphertext.now) (message (goal.at.returns c).After-message_of-m),
-    )
-
-pub write_key-requires : goal.write_key-requires
-write_key-requires c = c.requires.fact_1.2
+    let e = error_in given.e.half0 given.e.half1 in
+    (rw (c.chosen-secret.ensures, own (goal.at.returns c).After-differences-differing) at c.write_key.ensures)
+    ∙ ap (λ (m : List ℕ). hash_k (either (same_error l.r e (bound_h l given.digest.now m)) m given.sigma.now) given.ciphertext.now) (message (goal.at.returns c).After-message_of-m)

@@ -1,10 +1,10 @@
 -- `listed` looks the list through: before turn k it has looked at the first k positions.
 use mathlib.Core.Path.{refl, sym}
-use Prim.Native.Nat.{◌≤◌, ◌<◌}
+use Prim.Native.Nat.{◌<◌}
 use native.Mathlib.Numerals.{add-one}
 use native.Mathlib.Omega.{arith}
 use lib.ListN.{length, take}
-use lib.Seq.{take-suc, take_all}
+use lib.Seq.{take-suc}
 use Rattle.ring.specs.Polynomials.{listed}
 use Rattle.exchange.proofs.sampler.Laws.{listed_snoc}
 use Rattle.exchange.proofs.sampler.listed.Goals as goal
@@ -16,13 +16,6 @@ loop-k-preserved c =
     let list = given.list.now in
     let more : was.k < length list = omega arith in
     (omega arith, rw (was.invariant.1, add-one, take-suc list was.k 0 more) (sym (listed_snoc given.pos (take was.k list) _)))
-
-pub returns : goal.returns
-returns c =
-    let was = c.loop-k in
-    let list = c.args.list.now in
-    let all : length list ≤ was.k = omega arith in
-    rw (take_all was.k list all) at was.invariant.1
 
 pub loop-k-init : goal.loop-k-init
 unfolding listed

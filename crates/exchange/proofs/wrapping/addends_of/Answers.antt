@@ -65,8 +65,5 @@ returns c =
           ∙ ap (λ (a : Poly). mul l.r a h) (error_upper c.args.level c.args.message.now),
     )
 
-pub slice_bounds-list-end : goal.slice_bounds-list-end
-slice_bounds-list-end c = room (goal.at.slice_bounds-list-end c).After-positions-sampled
-
-pub slice_bounds-halves-end : goal.slice_bounds-halves-end
-slice_bounds-halves-end c = sym (length-take-le _ _ (room (goal.at.slice_bounds-halves-end c).After-positions-sampled))
+pub shared_ref_as_front-halves : goal.shared_ref_as_front-halves
+shared_ref_as_front-halves c = omega (arith, sizes c.args.level)

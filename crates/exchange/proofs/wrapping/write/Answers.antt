@@ -1,8 +1,6 @@
 -- `write` gives the ciphertext, and then the session key of what it holds.
-use mathlib.Core.Path.{ap, ◌∙◌}
 use Rattle.ring.specs.Levels.{level_of}
 use Rattle.ring.proofs.Layouts.{pad_rule}
-use Rattle.exchange.specs.Scheme.{hash_k}
 use Rattle.exchange.proofs.Judged.{wrapping_clear}
 use Rattle.exchange.proofs.wrapping.write.Goals as goal
 
@@ -17,8 +15,3 @@ write_ciphertext-requires c =
 pub write_key-requires : goal.write_key-requires
 write_key-requires c =
     (wrapping_clear c.requires).key_room
-
-pub returns : goal.returns
-returns c =
-    let given = c.args in
-    (c.write_ciphertext.ensures, c.write_key.ensures ∙ ap (hash_k given.message.now) c.write_ciphertext.ensures)

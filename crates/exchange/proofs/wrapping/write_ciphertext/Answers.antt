@@ -1,17 +1,16 @@
 -- `write_ciphertext` writes c0 at the front and c1 after it.
-use mathlib.Core.Path.{◌≡◌, sym, ap, ap₂, ◌∙◌}
+use mathlib.Core.Path.{◌≡◌, ap, ap₂, ◌∙◌}
 use mathlib.Core.List.{◌++◌}
-use Prim.Native.Nat.{◌≤◌}
 use native.Mathlib.Omega.{arith}
 use lib.ListN.{length, take}
 use lib.Seq.{length-take-le}
 use Rattle.ring.specs.Bytes.{bytes_of}
 use Rattle.ring.specs.Levels.{level_of}
-use Rattle.ring.proofs.Levels.{r_pos}
+use Rattle.ring.proofs.Levels.{r_pos, sizes}
 use Rattle.ring.proofs.Ring.{mul_in}
 use Rattle.exchange.specs.Scheme.{key_digest, bound_h, hash_l, wrapped}
 use Rattle.exchange.proofs.Errors.{error_in0}
-use Rattle.exchange.proofs.Parts.{two_parts, front_room}
+use Rattle.exchange.proofs.Parts.{two_parts}
 use Rattle.exchange.proofs.wrapping.write_ciphertext.Goals as goal
 use Rattle.exchange.proofs.wrapping.write_ciphertext.Goals.{After-polynomial-n, After-stored-b}
 
@@ -33,24 +32,16 @@ write_c0-requires c =
 b0_is : (c : After-stored-b) →
     let given = c.args in
     let l = level_of given.level in
-    take c.polynomial-n.result c.stored-b.result.e0 ≡ bytes_of l.r (bound_h l (key_digest given.h.now) given.message.now).half0
+    take c.polynomial-n.result c.stored-b.result.half0 ≡ bytes_of l.r (bound_h l (key_digest given.h.now) given.message.now).half0
 b0_is c =
     rw c.polynomial-n.ensures (c.stored-b.ensures.0 ∙ ap (bytes_of _) c.bound_addends-a.ensures.0)
 
 b1_is : (c : After-stored-b) →
     let given = c.args in
     let l = level_of given.level in
-    take c.polynomial-n.result c.stored-b.result.e1 ≡ bytes_of l.r (bound_h l (key_digest given.h.now) given.message.now).half1
+    take c.polynomial-n.result c.stored-b.result.half1 ≡ bytes_of l.r (bound_h l (key_digest given.h.now) given.message.now).half1
 b1_is c =
     rw c.polynomial-n.ensures (c.stored-b.ensures.1 ∙ ap (bytes_of _) c.bound_addends-a.ensures.1)
-
-room0 : (c : After-stored-b) → c.polynomial-n.result ≤ length c.stored-b.result.e0
-room0 c =
-    rw c.polynomial-n.ensures (front_room _ _ _ c.stored-b.ensures.0)
-
-room1 : (c : After-stored-b) → c.polynomial-n.result ≤ length c.stored-b.result.e1
-room1 c =
-    rw c.polynomial-n.ensures (front_room _ _ _ c.stored-b.ensures.1)
 
 pub returns : goal.returns
 unfolding wrapped hash_l
@@ -60,20 +51,5 @@ returns c =
     (rw (c.bound_addends-a.ensures.0, c.bound_addends-a.ensures.2) at c.write_c0.ensures)
     (rw (b0_is (goal.at.returns c).After-stored-b, b1_is (goal.at.returns c).After-stored-b) at c.write_c1.ensures)
 
-pub bound_addends-a-requires : goal.bound_addends-a-requires
-bound_addends-a-requires c = record { fact_1 = c.requires.fact_1.0; fact_2 = c.requires.fact_2 }
-
-pub slice_bounds-write_c0-end-2 : goal.slice_bounds-write_c0-end-2
-slice_bounds-write_c0-end-2 c = sym (cut (goal.at.slice_bounds-write_c0-end-2 c).After-polynomial-n)
-
-pub slice_bounds-b0-end : goal.slice_bounds-b0-end
-slice_bounds-b0-end c = room0 (goal.at.slice_bounds-b0-end c).After-stored-b
-
-pub slice_bounds-write_c1-end : goal.slice_bounds-write_c1-end
-slice_bounds-write_c1-end c = sym (length-take-le _ _ (room0 (goal.at.slice_bounds-write_c1-end c).After-stored-b))
-
-pub slice_bounds-b1-end : goal.slice_bounds-b1-end
-slice_bounds-b1-end c = room1 (goal.at.slice_bounds-b1-end c).After-stored-b
-
-pub slice_bounds-write_c1-end-2 : goal.slice_bounds-write_c1-end-2
-slice_bounds-write_c1-end-2 c = sym (length-take-le _ _ (room1 (goal.at.slice_bounds-write_c1-end-2 c).After-stored-b))
+pub shared_ref_as_front-write_c1 : goal.shared_ref_as_front-write_c1
+shared_ref_as_front-write_c1 c = omega (arith, sizes c.args.level)

@@ -3,16 +3,16 @@ use Rattle.exchange.specs.decoder.Decoder.{among}
 use Rattle.exchange.proofs.decoder.Laws.{in_words, few_words, pair_path}
 use Rattle.exchange.proofs.decoder.halves.among.Goals as goal
 
-pub common-f0-requires : goal.common-f0-requires
-common-f0-requires c =
+pub common-requires : goal.common-requires
+common-requires c =
     let r = c.block.ensures in
     (few_words _ _ r, in_words _ (rw r c.requires.0))
 
-pub common-f1-requires : goal.common-f1-requires
-common-f1-requires c =
+pub common-requires-2 : goal.common-requires-2
+common-requires-2 c =
     let r = c.block.ensures in
     (few_words _ _ r, in_words _ (rw r c.requires.1))
 
 pub returns : goal.returns
 unfolding among
-returns c = pair_path c.common-f0.ensures c.common-f1.ensures
+returns c = pair_path c.common.ensures c.common-2.ensures

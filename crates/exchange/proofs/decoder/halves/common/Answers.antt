@@ -30,4 +30,4 @@ returns c =
     (λ k h. rw (pre.1 k h) (and-false (bits 64 a.a k)))
 
 pub loop-i-init : goal.loop-i-init
-loop-i-init c = (omega arith, done_none (λ j. bits 64 c.args.a j && bits 64 c.args.b j) c.zeros-c.result c.zeros-c.ensures)
+loop-i-init c = (omega arith, done_none (λ j. bits 64 c.args.a j && bits 64 c.args.b j) c.filled-c.result c.filled-c.ensures)

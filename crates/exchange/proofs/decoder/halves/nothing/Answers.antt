@@ -17,4 +17,4 @@ none e = ap (bits 64) e ∙ bits-zeros words
 
 pub returns : goal.returns
 unfolding nothing
-returns c = pair_path (none c.zeros-none.ensures) (none c.zeros-none.ensures)
+returns c = pair_path (none c.filled.ensures) (none c.filled-2.ensures)

@@ -2,8 +2,7 @@
 use mathlib.Core.Path.{◌≡◌}
 use mathlib.Core.List.{List}
 use mathlib.Core.Logic.{◌⊎◌}
-use Prim.Native.Nat.{ℕ, ◌+◌, ◌-◌, ◌*◌, ◌^◌, ◌≤◌, ◌<◌}
-use lib.ListN.{length}
+use Prim.Native.Nat.{ℕ, ◌+◌, ◌*◌, ◌^◌, ◌≤◌, ◌<◌}
 use Rattle.exchange.specs.inner.Counting.{total}
 use Rattle.exchange.specs.inner.Planes.{planes, block_words, plane_words, column, number_at, in_row}
 use Rattle.exchange.proofs.decoder.planes.add_rows.Given as goal
@@ -19,9 +18,6 @@ Adds f starts k i q₀ q =
 
 abbrev pub invariant-loop-i : goal.invariant-loop-i
 invariant-loop-i l =
-    (l.i ≤ block_words) × (length l.p ≡ length l.initial.p)
+    (l.i ≤ block_words)
     × ((j : ℕ) → l.from ≤ j → j < l.from + l.i → Adds l.f l.starts l.k j (column l.initial.p j) (column l.p j))
     × ((j : ℕ) → j < plane_words → (j < l.from) ⊎ (l.from + l.i ≤ j) → column l.p j ≡ column l.initial.p j)
-
-abbrev pub decreases-loop-i : goal.decreases-loop-i
-decreases-loop-i l = block_words - l.i

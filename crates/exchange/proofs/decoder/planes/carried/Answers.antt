@@ -1,15 +1,15 @@
 -- `carried`: the carry, in front of plane k, and the planes are what they were with it.
-use mathlib.Core.Path.{◌≡◌, refl, sym, ap, ◌∙◌}
+use mathlib.Core.Path.{ap, ◌∙◌}
 use mathlib.Core.Bool.{Bool}
-use Prim.Native.Nat.{ℕ, ◌+◌, ◌*◌, ◌^◌}
+use Prim.Native.Nat.{◌+◌, ◌*◌, ◌^◌}
 use native.Mathlib.Omega.{arith}
 use lib.Bits.{bit_xor}
 use lib.ListN.{get_or, length-set}
 use Rattle.hashing.specs.Lists.{bit_at}
 use Rattle.hashing.proofs.Words.{bit-and, bit-xor}
 use Rattle.ring.specs.Polynomials.{bit}
-use Rattle.exchange.specs.inner.Planes.{planes, number_at}
-use Rattle.exchange.proofs.decoder.planes.Laws.{number-set, carry_on, carry_out}
+use Rattle.exchange.specs.inner.Planes.{number_at}
+use Rattle.exchange.proofs.decoder.planes.Laws.{number-set, carry_on}
 use Rattle.exchange.proofs.decoder.planes.carried.Goals as goal
 
 pub loop-k-preserved : goal.loop-k-preserved
@@ -25,12 +25,3 @@ loop-k-preserved c =
           ∙ ap (λ (b : Bool). number_at l.q e + bit b * 2 ^ l.k) (bit-xor x l.c e)))
           ∙ l.invariant.2 e,
     )
-
-pub returns : goal.returns
-returns c = λ e room.
-    let l = c.loop-k in
-    let all : l.k ≡ planes = omega arith in
-    carry_out (bit_at l.c e) _ _ (2 ^ planes) room (ap (λ (k : ℕ). number_at l.q e + bit (bit_at l.c e) * 2 ^ k) (sym all) ∙ l.invariant.2 e)
-
-pub loop-k-init : goal.loop-k-init
-loop-k-init c = (c.requires, omega arith, λ e. refl)

@@ -1,6 +1,6 @@
 -- `carried`: the carry, in front of plane k, and the planes are what they were with it.
 use mathlib.Core.Path.{◌≡◌}
-use Prim.Native.Nat.{ℕ, ◌+◌, ◌-◌, ◌*◌, ◌^◌, ◌≤◌}
+use Prim.Native.Nat.{ℕ, ◌+◌, ◌*◌, ◌^◌, ◌≤◌}
 use lib.ListN.{length}
 use Rattle.hashing.specs.Lists.{bit_at}
 use Rattle.ring.specs.Polynomials.{bit}
@@ -11,6 +11,3 @@ abbrev pub invariant-loop-k : goal.invariant-loop-k
 invariant-loop-k l =
     (l.k ≤ planes) × (length l.q ≡ planes)
     × ((e : ℕ) → number_at l.q e + bit (bit_at l.c e) * 2 ^ l.k ≡ number_at l.initial.q e + bit (bit_at l.carry e) * 2 ^ l.from)
-
-abbrev pub decreases-loop-k : goal.decreases-loop-k
-decreases-loop-k l = planes - l.k

@@ -1,7 +1,7 @@
 -- `column_of`: the words of k planes are read.
 use mathlib.Core.Path.{◌≡◌}
 use mathlib.Core.List.{List, ◌++◌}
-use Prim.Native.Nat.{ℕ, ◌+◌, ◌-◌, ◌*◌, ◌≤◌}
+use Prim.Native.Nat.{ℕ, ◌+◌, ◌*◌, ◌≤◌}
 use lib.ListN.{length, get_or, drop, replicate}
 use Rattle.hashing.specs.Lists.{tab}
 use Rattle.exchange.specs.inner.Planes.{planes, plane_words}
@@ -12,6 +12,3 @@ entry p i k = get_or p (plane_words * k + i) 0
 
 abbrev pub invariant-loop-k : goal.invariant-loop-k
 invariant-loop-k l = (l.k ≤ planes) × (length l.q ≡ planes) × (l.q ≡ tab l.k (entry l.p l.i) ++ drop l.k (replicate planes 0))
-
-abbrev pub decreases-loop-k : goal.decreases-loop-k
-decreases-loop-k l = planes - l.k

@@ -1,6 +1,6 @@
 -- `compared`: i words are done.
 use mathlib.Core.List.{List}
-use Prim.Native.Nat.{ℕ, ◌-◌, ◌/◌, ◌%◌, ◌≤◌}
+use Prim.Native.Nat.{ℕ, ◌/◌, ◌%◌, ◌≤◌}
 use Rattle.ring.specs.Polynomials.{Poly}
 use Rattle.ring.proofs.words.Laws.{Done}
 use Rattle.exchange.specs.inner.Planes.{column, reaches_at}
@@ -11,6 +11,3 @@ marked p clear j = reaches_at clear (column p (j / 64)) (j % 64)
 
 abbrev pub invariant-loop-i : goal.invariant-loop-i
 invariant-loop-i l = (l.i ≤ l.n) × Done (marked l.p l.clear) l.i l.x
-
-abbrev pub decreases-loop-i : goal.decreases-loop-i
-decreases-loop-i l = l.n - l.i

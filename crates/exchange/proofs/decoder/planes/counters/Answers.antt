@@ -1,8 +1,7 @@
 -- `counters`: b blocks are counted, and the counters of the others are 0.
-use mathlib.Core.Path.{◌≡◌, sym, ap, ◌∙◌}
+use mathlib.Core.Path.{◌≡◌, ap, ◌∙◌}
 use mathlib.Core.Bool.{false}
 use mathlib.Core.List.{List}
-use mathlib.Core.Logic.{◌⊎◌, inl, inr}
 use Prim.Native.Nat.{ℕ, ◌+◌, ◌*◌, ◌/◌, ◌%◌, ◌≤◌, ◌<◌}
 use native.Mathlib.Nat.{not-suc-le-zero}
 use native.Mathlib.Decide.{dec_lt}
@@ -11,19 +10,18 @@ use lib.ListN.{get_or}
 use Rattle.hashing.specs.Lists.{bits}
 use Rattle.ring.specs.inner.Sizes.{word_bits}
 use Rattle.ring.specs.Polynomials.{bit}
-use Rattle.exchange.specs.inner.ByteRows.{block_bytes, blocks, empty_row, row_at}
+use Rattle.exchange.specs.inner.ByteRows.{EmptyRow, empty_row, row_at}
 use Rattle.exchange.specs.inner.Counting.{total}
-use Rattle.exchange.specs.inner.Planes.{block_words, plane_words, planes_words, row_starts, column, number_at, counter_at, in_row}
-use Rattle.exchange.proofs.decoder.Totals.{total_ext, total_le, bit_le, blank_length}
+use Rattle.exchange.specs.inner.Planes.{Within, plane_words, planes_words, row_starts, counter_at, in_row}
+use Rattle.exchange.proofs.decoder.Totals.{total_ext, total_le, bit_le}
 use Rattle.exchange.proofs.decoder.planes.Laws.{none_counted}
 use Rattle.exchange.proofs.decoder.planes.counters.Goals as goal
 use Rattle.exchange.proofs.decoder.planes.counters.Goals.{After-loop-b}
 
 pub loop-b-init : goal.loop-b-init
 loop-b-init c =
-    let blank = c.no_counters-p.ensures in (
+    let blank = c.filled-p.ensures in (
       omega arith,
-      blank_length planes_words blank,
       (λ i e h. absurd (not-suc-le-zero h)),
       λ i e above below. none_counted planes_words blank i e,
     )
@@ -31,8 +29,8 @@ loop-b-init c =
 -- each row that `starts_of` finds lies within the rows, and those past the last position are empty
 module _ (r d : ℕ) (positions starts f : List ℕ) (small : r < word_bits) (below : (i : ℕ) → i < d → get_or positions i 0 < r)
     (at : (i : ℕ) → i < d → get_or starts i 0 ≡ row_at (get_or positions i 0)) (past : (i : ℕ) → d ≤ i → i < row_starts → get_or starts i 0 ≡ empty_row)
-    (none : (k : ℕ) → k < 8 * (blocks * block_bytes) → bits 8 f (8 * empty_row + k) ≡ false) where
-  ready : ((m : ℕ) → m < row_starts → get_or starts m 0 ≤ empty_row)
+    (none : EmptyRow f) where
+  ready : Within starts
       × ((m j : ℕ) → d ≤ m → m < row_starts → j < 64 * plane_words → bits 8 f (8 * get_or starts m 0 + j) ≡ false)
   unfolding row_at
   ready =
@@ -47,56 +45,29 @@ count_block-requires c =
     let l = c.loop-b in
     let rows = c.starts_of-starts in
     let given = c.args in
-    let known = ready given.r given.d given.positions.now rows.result given.f.now c.requires.fact_1.0 c.requires.fact_2 rows.ensures.fact_1.1 rows.ensures.fact_2 c.requires.fact_3.1 in
+    let known = ready given.r given.d given.positions.now rows.result given.rows.now.bytes c.requires.fact_1.0 c.requires.fact_2 rows.ensures.fact_1 rows.ensures.fact_2 c.args.rows.now.empty in
     record {
-      fact_1 = (l.invariant.1, omega (arith, l.invariant.0, c.loop-b-test.true, c.requires.fact_1.0), c.requires.fact_1.2);
-      fact_2 = (λ i e above below. l.invariant.3 i e (omega arith) (omega arith));
-      fact_3 = ((c.requires.fact_3.0, rows.ensures.fact_1.0, known.0), known.1);
+      fact_1 = (omega (arith, l.invariant.0, c.loop-b-test.true, c.requires.fact_1.0), c.requires.fact_1.2);
+      fact_2 = (λ i e above below. l.invariant.2 i e (omega arith) (omega arith));
+      fact_3 = known;
     }
-
-either : {A : Type 0} (from i : ℕ) → (i < from → A) → (from ≤ i → A) → A
-either {A} from i before here = go (dec_lt i from)
-  where
-    go : Dec (i < from) → A
-    go (yes below) = before below
-    go (no above) = here (omega arith)
-
-pub loop-b-preserved : goal.loop-b-preserved
-loop-b-preserved c =
-    let l = c.loop-b in
-    let counted = c.count_block in
-    let from = block_words * l.b in
-    let kept : (i e : ℕ) → i < plane_words → (i < from) ⊎ (from + block_words ≤ i) → number_at (column counted.new.p i) e ≡ number_at (column l.p i) e =
-    λ i e h out. ap (λ (q : List ℕ). number_at q e) (counted.ensures.fact_2 i h out) in (
-      omega arith,
-      counted.auto.p ∙ l.invariant.1,
-      (λ i e h small.
-          either from i (λ below. kept i e (omega arith) (inl below) ∙ l.invariant.2 i e below small) (λ above. counted.ensures.fact_1 i e above (omega arith) small)),
-      λ i e above h. kept i e h (inr (omega arith)) ∙ l.invariant.3 i e (omega arith) h,
-    )
 
 counted : (c : After-loop-b) →
     let given = c.args in
-    (j : ℕ) → j < given.r → counter_at c.loop-b.p j ≡ total given.d (λ i. bit (bits 8 given.f.now (8 * row_at (get_or given.positions.now i 0) + j)))
+    (j : ℕ) → j < given.r → counter_at c.loop-b.p j ≡ total given.d (λ i. bit (bits 8 given.rows.now.bytes (8 * row_at (get_or given.positions.now i 0) + j)))
 unfolding counter_at in_row
 counted c j h =
     let l = c.loop-b in
     let rows = c.starts_of-starts in
-    let f = c.args.f.now in
+    let f = c.args.rows.now.bytes in
     let whole : 64 * (j / 64) + j % 64 ≡ j = omega arith in
-    l.invariant.2 (j / 64) (j % 64) (omega arith) (omega arith)
+    l.invariant.1 (j / 64) (j % 64) (omega arith) (omega arith)
     ∙ total_ext c.args.d (in_row f rows.result (64 * (j / 64) + j % 64)) (λ i. bit (bits 8 f (8 * row_at (get_or c.args.positions.now i 0) + j)))
-    (λ i more. ap (λ (k : ℕ). bit (bits 8 f (8 * get_or rows.result i 0 + k))) whole ∙ ap (λ (s : ℕ). bit (bits 8 f (8 * s + j))) (rows.ensures.fact_1.1 i more))
+    (λ i more. ap (λ (k : ℕ). bit (bits 8 f (8 * get_or rows.result i 0 + k))) whole ∙ ap (λ (s : ℕ). bit (bits 8 f (8 * s + j))) (rows.ensures.fact_1 i more))
 
 pub returns : goal.returns
 returns c = record {
   fact_1 = counted (goal.at.returns c).After-loop-b;
   fact_2 = λ j h.
-      omega (arith, counted (goal.at.returns c).After-loop-b j h, total_le c.args.d _ (λ i. bit_le (bits 8 c.args.f.now (8 * row_at (get_or c.args.positions.now i 0) + j))), c.requires.fact_1.2);
+      omega (arith, counted (goal.at.returns c).After-loop-b j h, total_le c.args.d _ (λ i. bit_le (bits 8 c.args.rows.now.bytes (8 * row_at (get_or c.args.positions.now i 0) + j))), c.requires.fact_1.2);
 }
-
-pub slice_bounds-count_block-end : goal.slice_bounds-count_block-end
-slice_bounds-count_block-end c = sym c.loop-b.invariant.1
-
-pub slice_bounds-count_block-end-in-loop-b : goal.slice_bounds-count_block-end-in-loop-b
-slice_bounds-count_block-end-in-loop-b c = sym c.starts_of-starts.ensures.fact_1.0

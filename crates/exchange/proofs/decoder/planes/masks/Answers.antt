@@ -1,6 +1,5 @@
 -- `masks`: k masks are made.
-use mathlib.Core.Path.{refl, ◌∙◌}
-use native.Mathlib.Nat.{not-suc-le-zero}
+use mathlib.Core.Path.{◌∙◌}
 use native.Mathlib.Omega.{arith}
 use lib.ListN.{length-set}
 use Rattle.ring.proofs.words.Laws.{filled}
@@ -17,9 +16,3 @@ loop-k-preserved c =
       length-set l.clear l.k _ ∙ l.invariant.1,
       filled (MaskOf b) l.clear l.k _ (omega arith) l.invariant.2 (λ e h. mask_digit b l.k planes e h),
     )
-
-pub returns : goal.returns
-returns c = λ k e h. c.loop-k.invariant.2 k (omega arith) e
-
-pub loop-k-init : goal.loop-k-init
-loop-k-init c = (omega arith, refl, λ j h. absurd (not-suc-le-zero h))

@@ -1,7 +1,7 @@
 -- `masks`: k masks are made.
 use mathlib.Core.Path.{◌≡◌}
 use mathlib.Core.Bool.{not, ◌||◌}
-use Prim.Native.Nat.{ℕ, ◌-◌, ◌≤◌, ◌<◌}
+use Prim.Native.Nat.{ℕ, ◌≤◌, ◌<◌}
 use lib.ListN.{length, get_or}
 use Rattle.hashing.specs.Lists.{bit_at}
 use Rattle.exchange.specs.inner.Planes.{planes}
@@ -13,6 +13,3 @@ MaskOf bound k w = (e : ℕ) → e < 64 → bit_at w e ≡ not (bit_at bound k |
 
 abbrev pub invariant-loop-k : goal.invariant-loop-k
 invariant-loop-k l = (l.k ≤ planes) × (length l.clear ≡ planes) × ((j : ℕ) → j < l.k → MaskOf l.b j (get_or l.clear j 0))
-
-abbrev pub decreases-loop-k : goal.decreases-loop-k
-decreases-loop-k l = planes - l.k

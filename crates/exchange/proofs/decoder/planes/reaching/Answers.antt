@@ -33,8 +33,5 @@ returns c = fun_ext (λ j. go j (dec_lt j c.args.r))
     go j (yes below) =
         rw (lt-ltb j c.args.r below)
         (c.cut.ensures.fact_2 j below ∙ c.compared.ensures.fact_2 j (omega arith)
-        ∙ compares c.args.bound c.masks.result c.args.p.now j c.requires.2 c.masks.ensures (c.requires.3 j below))
+        ∙ compares c.args.bound c.masks.result c.args.p.now j c.requires.1 c.masks.ensures (c.requires.2 j below))
     go j (no above) = let past : c.args.r ≤ j = omega arith in rw (le-ltb j c.args.r past) (c.cut.ensures.fact_1 j past)
-
-pub cut-requires : goal.cut-requires
-cut-requires c = record { fact_1 = c.requires.0; fact_2 = c.compared.ensures.fact_1 }

@@ -1,7 +1,5 @@
 -- `starts_of`: i rows are found.
-use mathlib.Core.Path.{◌≡◌, refl, ap, ◌∙◌}
-use mathlib.Core.List.{List}
-use Prim.Native.Nat.{ℕ}
+use mathlib.Core.Path.{◌≡◌, refl, ◌∙◌}
 use native.Mathlib.Nat.{not-suc-le-zero}
 use native.Mathlib.Omega.{arith}
 use lib.ListN.{get_or, length-set, get_or-replicate}
@@ -16,7 +14,7 @@ loop-i-init c = (
   omega arith,
   omega arith,
   (λ j h. absurd (not-suc-le-zero h)),
-  λ j past room. ap (λ (l : List ℕ). get_or l j 0) c.no_starts-s.ensures ∙ get_or-replicate row_starts j empty_row 0 room,
+  λ j past room. get_or-replicate row_starts j empty_row 0 room,
 )
 
 pub loop-i-preserved : goal.loop-i-preserved
@@ -29,17 +27,3 @@ loop-i-preserved c =
       filled (λ j v. v ≡ row_at (get_or positions j 0)) l.s l.i _ (omega arith) l.invariant.2 refl,
       λ j past room. get_or-set_other l.s l.i j _ 0 (λ e. omega arith) ∙ l.invariant.3 j (omega arith) room,
     )
-
-pub returns : goal.returns
-returns c =
-    let l = c.loop-i in
-    record {
-      fact_1 = (l.invariant.1, λ i h. l.invariant.2 i (omega arith));
-      fact_2 = λ i past. l.invariant.3 i (omega arith);
-    }
-
-pub overflow_cast-b : goal.overflow_cast-b
-overflow_cast-b c = omega (arith, c.shared_slice_known-in-loop-i-1.given c.loop-i.i)
-
-pub overflow_add-s : goal.overflow_add-s
-overflow_add-s c = omega (arith, c.shared_slice_known-in-loop-i-1.given c.loop-i.i)

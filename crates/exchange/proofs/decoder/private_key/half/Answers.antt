@@ -1,5 +1,5 @@
 -- `half`: before turn i the first i positions are read.
-use mathlib.Core.Path.{◌≡◌, refl, sym, ap₂, ◌∙◌}
+use mathlib.Core.Path.{◌≡◌, refl, ap₂, ◌∙◌}
 use mathlib.Core.List.{List, [], ◌∷◌, ◌++◌}
 use Prim.Native.Nat.{ℕ, ◌+◌, ◌*◌, ◌<◌}
 use native.Mathlib.Numerals.{add-one}
@@ -32,11 +32,6 @@ loop-i-preserved c =
       more c.args.bytes.now turn.h turn.i c.two.result room c.two.ensures turn.invariant.2,
     )
 
-pub returns : goal.returns
-returns c =
-    let all : c.loop-i.i ≡ c.args.d = omega arith in
-    (c.loop-i.invariant.1, rw (← all) c.loop-i.invariant.2)
-
 pub loop-i-init : goal.loop-i-init
 unfolding numbers tab
-loop-i-init c = (omega arith, sym c.no_positions-h.ensures, refl)
+loop-i-init c = (omega arith, refl, refl)

@@ -10,8 +10,8 @@ use Rattle.ring.specs.Bytes.{numbers}
 use Rattle.ring.proofs.Levels.{sizes}
 use Rattle.exchange.proofs.decoder.private_key.read_key.Goals as goal
 
-pub half-h0-requires : goal.half-h0-requires
-half-h0-requires c =
+pub half-requires : goal.half-requires
+half-requires c =
     let d = c.key_weight-d.ensures in
     let size = sizes c.args.level in
     let long = c.requires in
@@ -21,8 +21,8 @@ half-h0-requires c =
 rest : (n : ℕ) (l : List ℕ) → take (length l - n) (drop n l) ≡ drop n l
 rest n l = rw (← length-drop n l) (take-length (drop n l))
 
-pub half-h1-requires : goal.half-h1-requires
-half-h1-requires c =
+pub half-requires-2 : goal.half-requires-2
+half-requires-2 c =
     let d = c.key_weight-d in
     let size = sizes c.args.level in
     let long = c.requires in
@@ -35,8 +35,8 @@ unfolding positions0 positions1
 returns c =
     let d = c.key_weight-d in
     let bytes = c.args.bytes.now in
-    let first = c.half-h0.ensures in
-    let second = c.half-h1.ensures in
+    let first = c.half.ensures in
+    let second = c.half-2.ensures in
     record {
       fact_1 = (first.0, rw d.ensures at first.1);
       fact_2 = (second.0, rw d.ensures at (second.1 ∙ ap (numbers 2 d.result) (rest (2 * d.result) bytes)));

@@ -25,11 +25,11 @@ more r least i h good room =
     rw (drop-cons h i 0 room, add-one (get_or h i 0), add-one i)
     (and_assoc good (leb least (get_or h i 0)) (ltb (get_or h i 0) r) (rising_from r (suc (get_or h i 0)) (drop (suc i) h)))
 
-pub loop-i-preserved : goal.loop-i-preserved
-loop-i-preserved c =
-    let turn = c.loop-i in
+pub loop-position-preserved : goal.loop-position-preserved
+loop-position-preserved c =
+    let turn = c.loop-position in
     let start = c.args in
-    (omega arith, more start.r turn.least turn.i start.h.now turn.good (omega arith) ∙ turn.invariant.1)
+    (omega arith, more start.r turn.least turn.position-index start.h.now turn.good (omega arith) ∙ turn.invariant.1)
 
 -- nothing is left
 past : (r least : ℕ) (h : List ℕ) (good : Bool) → good && rising_from r least (drop (length h) h) ≡ good
@@ -39,16 +39,7 @@ past r least h false = refl
 
 pub returns : goal.returns
 returns c =
-    let turn = c.loop-i in
+    let turn = c.loop-position in
     let start = c.args in
-    let all : turn.i ≡ length start.h.now = omega arith in
+    let all : turn.position-index ≡ length start.h.now = omega arith in
     sym (past start.r turn.least start.h.now turn.good) ∙ rw (← all) turn.invariant.1
-
-pub loop-i-init : goal.loop-i-init
-loop-i-init c = (omega arith, refl)
-
-pub overflow_cast-p : goal.overflow_cast-p
-overflow_cast-p c = omega (arith, c.shared_slice_known-1.given c.loop-i.i)
-
-pub overflow_add-least : goal.overflow_add-least
-overflow_add-least c = omega (arith, c.shared_slice_known-1.given c.loop-i.i)

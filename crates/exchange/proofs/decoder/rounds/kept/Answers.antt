@@ -1,35 +1,52 @@
--- `kept` puts both halves under the mask of what is left.
-use mathlib.Core.Path.{◌≡◌, refl}
-use mathlib.Core.Bool.{Bool, true, false}
-use Prim.Native.Nat.{ℕ}
+-- `kept`: of all bits the error's are kept, and of none none.
+use mathlib.Core.Path.{◌≡◌, refl, ap, ◌∙◌, fun_ext}
+use mathlib.Core.Bool.{Bool, true, false, ◌&&◌, and-false}
+use Prim.Native.Nat.{ℕ, ◌*◌, ◌/◌, ◌%◌, ◌^◌, ◌-◌, ◌<◌}
+use native.Mathlib.Decide.{dec_lt}
 use native.Mathlib.Omega.{arith}
 use lib.Dec.{ltb}
+use lib.ListN.{replicate, get_or-replicate}
 use borrow.Author.Tests.{ltb-true, ltb-false}
+use Rattle.hashing.specs.Lists.{bit_at, bits}
+use Rattle.ring.specs.Levels.{level_of}
+use Rattle.ring.specs.Polynomials.{Poly, InRing}
+use Rattle.ring.specs.inner.Sizes.{words}
 use Rattle.ring.proofs.Levels.{sizes}
-use Rattle.exchange.specs.decoder.Decoder.{nothing}
+use Rattle.ring.proofs.Packed.{bits-zeros}
+use Rattle.exchange.specs.decoder.Decoder.{among, nothing}
 use Rattle.exchange.specs.inner.Working.{pair_of, kept}
-use Rattle.exchange.proofs.decoder.Laws.{pair_path, in_words, few_words}
+use Rattle.exchange.proofs.decoder.Laws.{pair_path}
+use Rattle.exchange.proofs.decoder.planes.Laws.{bit_at-ones}
 use Rattle.exchange.proofs.decoder.rounds.kept.Goals as goal
 
+-- all bits of the words are set
+all_ones : (k : ℕ) → k < 64 * words → bits 64 (replicate words (2 ^ 64 - 1)) k ≡ true
+unfolding bits
+all_ones k below =
+    ap (λ (w : ℕ). bit_at w (k % 64)) (get_or-replicate words (k / 64) (2 ^ 64 - 1) 0 (omega arith)) ∙ bit_at-ones (k % 64) (omega arith)
+
+among_all : (level : ℕ) (x : Poly) → InRing (level_of level).r x → ◌≡◌ {A = Poly} (λ k. bits 64 (replicate words (2 ^ 64 - 1)) k && x k) x
+among_all level x inside = fun_ext (λ k. go k (dec_lt k (64 * words)))
+  where
+    go : (k : ℕ) → Dec (k < 64 * words) → bits 64 (replicate words (2 ^ 64 - 1)) k && x k ≡ x k
+    go k (yes below) = rw (all_ones k below)
+    go k (no past) = rw (inside k (omega (arith, sizes level))) (and-false (bits 64 (replicate words (2 ^ 64 - 1)) k))
+
+among_none : (x : Poly) → ◌≡◌ {A = Poly} (λ k. bits 64 (replicate words 0) k && x k) (λ k. false)
+among_none x = rw (bits-zeros words)
+
 pub returns : goal.returns
-unfolding nothing
-returns c = go (ltb 0 left) refl
+unfolding among nothing
+returns c = c.among.ensures ∙ go (ltb 0 left) refl
   where
     left : ℕ
     left = c.args.left
 
-    go : (t : Bool) → ltb 0 left ≡ t → pair_of (record { e0 = c.under-k0.result; e1 = c.under-k1.result }) ≡ kept t (pair_of c.args.e)
-    go true some = let none = c.word-mask.ensures.1 (ltb-true 0 left some) in pair_path (c.under-k0.ensures.1 none) (c.under-k1.ensures.1 none)
+    mask : (m : ℕ) → c.word.result ≡ m → c.filled-mask.result ≡ replicate words m
+    mask m is = c.filled-mask.ensures ∙ ap (replicate words) is
+
+    go : (t : Bool) → ltb 0 left ≡ t → among (pair_of (record { half0 = c.filled-mask.result; half1 = c.filled-mask.result })) (pair_of c.args.e) ≡ kept t (pair_of c.args.e)
+    go true some = rw (mask 0 (c.word.ensures.1 (ltb-true 0 left some))) (pair_path (among_none _) (among_none _))
     go false gone =
         let zero : left ≡ 0 = omega (arith, ltb-false 0 left gone) in
-        let all = c.word-mask.ensures.0 zero in
-        pair_path (c.under-k0.ensures.0 all) (c.under-k1.ensures.0 all)
-
-pub overflow_add-n : goal.overflow_add-n
-overflow_add-n c = omega (arith, sizes c.args.level)
-
-pub under-k0-requires : goal.under-k0-requires
-under-k0-requires c = (few_words c.args.level _ c.block.ensures, in_words _ (rw c.block.ensures c.requires.fact_2.0))
-
-pub under-k1-requires : goal.under-k1-requires
-under-k1-requires c = (few_words c.args.level _ c.block.ensures, in_words _ (rw c.block.ensures c.requires.fact_2.1))
+        rw (mask (2 ^ 64 - 1) (c.word.ensures.0 zero)) (pair_path (among_all c.args.level _ c.requires.fact_2.0) (among_all c.args.level _ c.requires.fact_2.1))

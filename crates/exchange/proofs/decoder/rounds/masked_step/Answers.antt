@@ -19,39 +19,35 @@ among_inside l h marked m n x bound is_m is_n =
 pub among-requires : goal.among-requires
 among-requires c =
     let l = level_of c.args.level in
-    inside_by l.r c.marks-again.ensures.fact_1.0 (reaching_in l.r (key_of l c.args.key) _ _)
+    inside_by l.r c.marks-again.ensures.0 (reaching_in l.r (key_of l c.args.key) _ _)
 
 pub flipped-requires : goal.flipped-requires
 flipped-requires c =
     let l = level_of c.args.level in
-    (c.requires.fact_2.1.1, (among_inside l (key_of l c.args.key) (pair_of c.args.marked) _ _ _ _ c.marks-again.ensures.fact_1.0 c.among.ensures).1)
+    (c.requires.fact_2.1.1, (among_inside l (key_of l c.args.key) (pair_of c.args.marked) _ _ _ _ c.marks-again.ensures.0 c.among.ensures).1)
 
 pub turned-requires : goal.turned-requires
 turned-requires c =
     let l = level_of c.args.level in
-    let taken = among_inside l (key_of l c.args.key) (pair_of c.args.marked) _ _ _ _ c.marks-again.ensures.fact_1.0 c.among.ensures in
+    let taken = among_inside l (key_of l c.args.key) (pair_of c.args.marked) _ _ _ _ c.marks-again.ensures.0 c.among.ensures in
     record {
       fact_1 = c.requires.fact_1;
       fact_2 = (c.requires.fact_2.0, inside_by l.r c.flipped.ensures (flipped_in l.r _ _ c.requires.fact_2.1.1 taken.1));
-      fact_3 = c.marks-again.ensures.fact_2;
     }
 
 pub returns : goal.returns
 unfolding masked_step
 returns c =
     let l = level_of c.args.level in
-    let made = c.turned.ensures in record {
-      fact_1 = (
-        made.fact_1.0,
-        made.fact_1.1 ∙ c.flipped.ensures
-            ∙ ap (flipped (pair_of c.args.st.e))
-            (c.among.ensures
-            ∙ ap (among (pair_of c.args.marked))
-            (c.marks-again.ensures.fact_1.0
-            ∙ ap₂ (reaching l.r (key_of l c.args.key)) c.requires.fact_2.1.0 (ap (λ (d : ℕ). (d + 1) / 2 + 1) c.key_weight.ensures))),
-      );
-      fact_2 = made.fact_2;
-    }
+    let made = c.turned.ensures in (
+      made.0,
+      made.1 ∙ c.flipped.ensures
+          ∙ ap (flipped (pair_of c.args.st.e))
+          (c.among.ensures
+          ∙ ap (among (pair_of c.args.marked))
+          (c.marks-again.ensures.0
+          ∙ ap₂ (reaching l.r (key_of l c.args.key)) c.requires.fact_2.1.0 (ap (λ (d : ℕ). (d + 1) / 2 + 1) c.key_weight.ensures))),
+    )
 
 pub overflow_add-bound : goal.overflow_add-bound
 overflow_add-bound c = omega (arith, c.key_weight.ensures, sizes c.args.level)
@@ -64,9 +60,5 @@ marks-again-requires c = let small = sizes c.args.level in
     record {
       fact_1 = c.requires.fact_1;
       fact_2 = carried_in c.args.level _ _ _ c.requires.fact_2.0 c.requires.fact_2.1;
-      fact_3 = c.requires.fact_3;
-      fact_4 = (omega arith, omega arith);
+      fact_3 = (omega arith, omega arith);
     }
-
-pub shape_of-f : goal.shape_of-f
-shape_of-f c = c.turned.auto.f ∙ c.marks-again.auto.f

@@ -20,65 +20,42 @@ use Rattle.exchange.specs.inner.ByteRows.{block_bytes, blocks}
 use Rattle.exchange.specs.inner.Working.{key_of, pair_of, Rising}
 use Rattle.exchange.proofs.decoder.Laws.{residual_in}
 use Rattle.exchange.proofs.decoder.Listing.{ready, product}
-use Rattle.exchange.proofs.decoder.Totals.{blank_length}
-use Rattle.exchange.proofs.decoder.rows.Laws.{filled_length, filled_bits, taken-bits}
+use Rattle.exchange.proofs.decoder.rows.Laws.{filled_bits, taken-bits}
 use Rattle.exchange.proofs.decoder.rounds.residual.Goals as goal
-use Rattle.exchange.proofs.decoder.rounds.residual.Goals.{After-add_product, After-add_product-2, After-blank_window-z, After-store}
 
 -- the bytes of the syndrome: as many as its words have
-module _ (level r : ℕ) (is : r ≡ (level_of level).r) where
+bytes_fit : (level r : ℕ) → r ≡ (level_of level).r → 8 * (r / 64 + 1) ≤ blocks * block_bytes
+bytes_fit level r is = let size = sizes level in omega (arith, is)
+
+module _ (level r : ℕ) (is : r ≡ (level_of level).r) (z : List ℕ) (long : length z ≡ blocks * block_bytes) where
   abbrev bytes : ℕ
   bytes = 8 * (r / 64 + 1)
 
-  room : (z : List ℕ) → length z ≡ blocks * block_bytes → bytes ≤ length z
-  room z long = let size = sizes level in rw long (omega (arith, is))
-
-  whole : (z : List ℕ) → length z ≡ blocks * block_bytes → length (take bytes z) ≡ bytes
-  whole z long = length-take-le bytes z (room z long)
+  whole : length (take bytes z) ≡ bytes
+  whole = length-take-le bytes z (rw long (bytes_fit level r is))
 
   -- what the window holds once they are stored
-  stored_is : (z s out : List ℕ) → length z ≡ blocks * block_bytes → out ≡ list_of 8 (length (take bytes z)) (bits 64 s)
+  stored_is : (s out : List ℕ) → out ≡ list_of 8 (length (take bytes z)) (bits 64 s)
       → out ++ drop bytes z ≡ list_of 8 bytes (bits 64 s) ++ drop bytes z
-  stored_is z s out long stored =
-      ap (λ (xs : List ℕ). xs ++ drop bytes z) (stored ∙ ap (λ (m : ℕ). list_of 8 m (bits 64 s)) (whole z long))
-
-  filled_long : (z s out : List ℕ) → length z ≡ blocks * block_bytes → out ≡ list_of 8 (length (take bytes z)) (bits 64 s)
-      → length (out ++ drop bytes z) ≡ blocks * block_bytes
-  filled_long z s out long stored = ap length (stored_is z s out long stored) ∙ filled_length _ (bits 64 s) _ (room z long) ∙ long
-
--- the window before it has anything, with the syndrome, and after each product
-long : (c : After-blank_window-z) → length c.blank_window-z.result ≡ blocks * block_bytes
-long c = blank_length (blocks * block_bytes) c.blank_window-z.ensures
-
-first_long : (c : After-store) → length (c.store.new.out ++ drop (8 * (c.block-r.result / 64 + 1)) c.blank_window-z.result) ≡ blocks * block_bytes
-first_long c = filled_long c.args.level _ c.block-r.ensures _ c.args.s _ (blank_length (blocks * block_bytes) c.blank_window-z.ensures) c.store.ensures
-
-second_long : (c : After-add_product) → length c.add_product.new.z ≡ blocks * block_bytes
-second_long c = c.add_product.auto.z ∙ filled_long c.args.level _ c.block-r.ensures _ c.args.s _ (blank_length (blocks * block_bytes) c.blank_window-z.ensures) c.store.ensures
-
-third_long : (c : After-add_product-2) → length c.add_product-2.new.z ≡ blocks * block_bytes
-third_long c =
-    c.add_product-2.auto.z ∙ c.add_product.auto.z
-    ∙ filled_long c.args.level _ c.block-r.ensures _ c.args.s _ (blank_length (blocks * block_bytes) c.blank_window-z.ensures) c.store.ensures
+  stored_is s out stored =
+      ap (λ (xs : List ℕ). xs ++ drop bytes z) (stored ∙ ap (λ (m : ℕ). list_of 8 m (bits 64 s)) whole)
 
 pub add_product-requires : goal.add_product-requires
 add_product-requires c =
-    let asked = ready c.args.level _ _ c.args.key.h0 c.block-r.ensures c.key_weight-d.ensures c.requires.fact_1.0 in
+    let asked = ready c.args.level _ _ c.args.key.half0 c.block-r.ensures c.key_weight-d.ensures c.requires.fact_1.0 in
     record {
-      fact_1 = (asked.0.0, asked.0.1, asked.0.2, asked.0.3, first_long (goal.at.add_product-requires c).After-store);
+      fact_1 = (asked.0.0, asked.0.1, asked.0.2, asked.0.3);
       fact_2 = asked.1;
       fact_3 = rw c.block-r.ensures c.requires.fact_2.1.0;
-      fact_4 = c.requires.fact_3;
     }
 
 pub add_product-requires-2 : goal.add_product-requires-2
 add_product-requires-2 c =
-    let asked = ready c.args.level _ _ c.args.key.h1 c.block-r.ensures c.key_weight-d.ensures c.requires.fact_1.1 in
+    let asked = ready c.args.level _ _ c.args.key.half1 c.block-r.ensures c.key_weight-d.ensures c.requires.fact_1.1 in
     record {
-      fact_1 = (asked.0.0, asked.0.1, asked.0.2, asked.0.3, second_long (goal.at.add_product-requires-2 c).After-add_product);
+      fact_1 = (asked.0.0, asked.0.1, asked.0.2, asked.0.3);
       fact_2 = asked.1;
       fact_3 = rw c.block-r.ensures c.requires.fact_2.1.1;
-      fact_4 = c.add_product.ensures.fact_2;
     }
 
 pub cut-requires : goal.cut-requires
@@ -87,7 +64,7 @@ cut-requires c =
       fact_1 = omega (arith, c.block-r.ensures);
       fact_2 = λ k past.
           ap (λ (p : Poly). p k) c.load.ensures
-          ∙ bits_out 8 (take (8 * (c.block-r.result / 64 + 1)) c.add_product-2.new.z) k (lit< tt) (rw (whole c.args.level _ c.block-r.ensures _ (third_long (goal.at.cut-requires c).After-add_product-2)) (omega arith));
+          ∙ bits_out 8 (take (8 * (c.block-r.result / 64 + 1)) c.add_product-2.new.z) k (lit< tt) (rw (whole c.args.level _ c.block-r.ensures c.add_product-2.new.z (omega arith)) (omega arith));
     }
 
 -- two products by what the positions list
@@ -106,46 +83,34 @@ returns c =
     let key = c.args.key in
     let r = c.block-r.result in
     let at-r = c.block-r.ensures in
-    let z = c.blank_window-z.result in
-    let stored = stored_is c.args.level r at-r z c.args.s c.store.new.out (long (goal.at.returns c).After-blank_window-z) c.store.ensures in
+    let z = c.filled-z.result in
+    let stored = stored_is c.args.level r at-r z (omega arith) c.args.s c.store.new.out c.store.ensures in
     let sum_is : (k : ℕ) → k < r → bits 8 c.add_product-2.new.z k ≡ residual l.r (key_of l key) (bits 64 c.args.s) (pair_of c.args.e) k =
     λ k low.
     let first = ap (λ (xs : List ℕ). bits 8 xs k) stored ∙ filled_bits _ (bits 64 c.args.s) _ k (omega arith) in
-    products c.args.level _ _ key.h0 key.h1 (bits 64 c.args.s) (bits 64 c.args.e.e0) (bits 64 c.args.e.e1) k
+    products c.args.level _ _ key.half0 key.half1 (bits 64 c.args.s) (bits 64 c.args.e.half0) (bits 64 c.args.e.half1) k
     at-r c.key_weight-d.ensures c.requires.fact_1.0 c.requires.fact_1.1
-    first (c.add_product.ensures.fact_1 k low) (c.add_product-2.ensures.fact_1 k low) in
-    record {
-      fact_1 = ring_ext l.r (rw (← at-r) c.cut.ensures.fact_1) (residual_in l.r (r_pos c.args.level) (key_of l key) (pair_of c.args.e) c.requires.fact_2.0)
-          (λ k below.
-          let low : k < r = rw at-r below in
-          c.cut.ensures.fact_2 k low ∙ ap (λ (p : Poly). p k) c.load.ensures
-          ∙ taken-bits c.add_product-2.new.z (8 * (r / 64 + 1)) k (omega arith) ∙ sum_is k low);
-      fact_2 = c.add_product-2.ensures.fact_2;
-    }
+    first (c.add_product.ensures k low) (c.add_product-2.ensures k low) in
+    ring_ext l.r (rw (← at-r) c.cut.ensures.fact_1) (residual_in l.r (r_pos c.args.level) (key_of l key) (pair_of c.args.e) c.requires.fact_2.0)
+    (λ k below.
+    let low : k < r = rw at-r below in
+    c.cut.ensures.fact_2 k low ∙ ap (λ (p : Poly). p k) c.load.ensures
+    ∙ taken-bits c.add_product-2.new.z (8 * (r / 64 + 1)) k (omega arith) ∙ sum_is k low)
 
 pub slice_bounds-z-end : goal.slice_bounds-z-end
-slice_bounds-z-end c = room c.args.level _ c.block-r.ensures _ (long (goal.at.slice_bounds-z-end c).After-blank_window-z)
+slice_bounds-z-end c = omega (arith, bytes_fit _ _ c.block-r.ensures)
 
 pub slice_bounds-store-end : goal.slice_bounds-store-end
-slice_bounds-store-end c = sym (whole c.args.level _ c.block-r.ensures _ (long (goal.at.slice_bounds-store-end c).After-blank_window-z))
+slice_bounds-store-end c = sym (whole _ _ c.block-r.ensures _ (omega arith))
 
 pub store-requires : goal.store-requires
-store-requires c = let size = sizes c.args.level in rw (whole c.args.level _ c.block-r.ensures _ (long (goal.at.store-requires c).After-blank_window-z)) (omega (arith, c.block-r.ensures))
-
-pub slice_bounds-add_product-end-2 : goal.slice_bounds-add_product-end-2
-slice_bounds-add_product-end-2 c = sym (first_long (goal.at.slice_bounds-add_product-end-2 c).After-store)
-
-pub slice_bounds-add_product-end-4 : goal.slice_bounds-add_product-end-4
-slice_bounds-add_product-end-4 c = sym (second_long (goal.at.slice_bounds-add_product-end-4 c).After-add_product)
+store-requires c = let size = sizes c.args.level in rw (whole _ _ c.block-r.ensures c.filled-z.result (omega arith)) (omega (arith, c.block-r.ensures))
 
 pub slice_bounds-z-end-2 : goal.slice_bounds-z-end-2
-slice_bounds-z-end-2 c = room c.args.level _ c.block-r.ensures _ (third_long (goal.at.slice_bounds-z-end-2 c).After-add_product-2)
+slice_bounds-z-end-2 c = omega (arith, bytes_fit _ _ c.block-r.ensures)
 
 pub slice_bounds-load-end : goal.slice_bounds-load-end
-slice_bounds-load-end c = sym (whole c.args.level _ c.block-r.ensures _ (third_long (goal.at.slice_bounds-load-end c).After-add_product-2))
+slice_bounds-load-end c = sym (whole _ _ c.block-r.ensures _ (omega arith))
 
 pub load-requires : goal.load-requires
-load-requires c = let size = sizes c.args.level in rw (whole c.args.level _ c.block-r.ensures _ (third_long (goal.at.load-requires c).After-add_product-2)) (omega (arith, c.block-r.ensures))
-
-pub shape_of-f : goal.shape_of-f
-shape_of-f c = c.add_product-2.auto.f ∙ c.add_product.auto.f
+load-requires c = let size = sizes c.args.level in rw (whole _ _ c.block-r.ensures c.add_product-2.new.z (omega arith)) (omega (arith, c.block-r.ensures))

@@ -6,7 +6,6 @@ use Rattle.ring.specs.Levels.{level_of}
 use Rattle.exchange.specs.decoder.Decoder.{step, after, bgf}
 use Rattle.exchange.specs.inner.Working.{key_of}
 use Rattle.exchange.proofs.decoder.Laws.{carried_first, after_more}
-use Rattle.exchange.proofs.decoder.rows.Laws.{blank_room}
 use Rattle.exchange.proofs.decoder.rounds.rounds.Goals as goal
 
 pub loop-i-init : goal.loop-i-init
@@ -14,12 +13,7 @@ unfolding after
 loop-i-init c =
     let start = c.args in
     let l = level_of start.level in
-    (omega arith, blank_room c.blank_rows-f.ensures, carried_first l (key_of l start.key) _ c.nothing.ensures, c.nothing.ensures)
-
-pub step-next-requires : goal.step-next-requires
-step-next-requires c =
-    let was = c.loop-i.invariant in
-    record { fact_1 = c.requires.fact_1; fact_2 = (c.requires.fact_2, was.2); fact_3 = was.1 }
+    (omega arith, carried_first l (key_of l start.key) _ c.nothing.ensures, c.nothing.ensures)
 
 pub loop-i-preserved : goal.loop-i-preserved
 loop-i-preserved c =
@@ -28,8 +22,8 @@ loop-i-preserved c =
     let h = key_of l start.key in
     let s = bits 64 start.s in
     let turn = c.loop-i in
-    let made = c.step-next.ensures in
-    (omega arith, made.fact_2, made.fact_1.0, made.fact_1.1 ∙ ap (step l h s turn.i) turn.invariant.3 ∙ sym (after_more (step l h s) turn.i))
+    let made = c.step-st.ensures in
+    (omega arith, made.0, made.1 ∙ ap (step l h s turn.i) turn.invariant.2 ∙ sym (after_more (step l h s) turn.i))
 
 pub returns : goal.returns
 unfolding bgf
@@ -38,7 +32,4 @@ returns c =
     let l = level_of start.level in
     let was = c.loop-i in
     let all : was.i ≡ 5 = omega arith in
-    (was.invariant.2, was.invariant.3 ∙ ap (after (step l (key_of l start.key) (bits 64 start.s))) all)
-
-pub slice_bounds-step-end : goal.slice_bounds-step-end
-slice_bounds-step-end c = sym c.loop-i.invariant.1.0
+    (was.invariant.1, was.invariant.2 ∙ ap (after (step l (key_of l start.key) (bits 64 start.s))) all)

@@ -24,7 +24,7 @@ unfolding black
 black_is c =
     let l = level_of c.args.level in
     let carried = c.requires.fact_2.1.0 in
-    c.marks-m.ensures.fact_1.0
+    c.marks-m.ensures.0
     ∙ ap₂ (reaching l.r (key_of l c.args.key)) carried (bound_is l _ _ _ _ _ carried c.bound_of-t.ensures.0)
 
 wide_is : (c : After-marks-m) →
@@ -37,7 +37,7 @@ wide_is : (c : After-marks-m) →
 wide_is c =
     let l = level_of c.args.level in
     let carried = c.requires.fact_2.1.0 in
-    c.marks-m.ensures.fact_1.1
+    c.marks-m.ensures.1
     ∙ ap₂ (λ (a : Poly) (t : ℕ). reaching l.r (key_of l c.args.key) a (t - 3)) carried (bound_is l _ _ _ _ _ carried c.bound_of-t.ensures.0)
 
 first_is : (c : After-turned-first) →
@@ -48,21 +48,20 @@ first_is : (c : After-turned-first) →
     let e = pair_of start.st.e in
     pair_of c.marks-m.result.high ≡ black l h s e → pair_of c.turned-first.result.e ≡ round l h s e
 unfolding round
-first_is c marked = c.turned-first.ensures.fact_1.1 ∙ c.flipped.ensures ∙ ap (flipped (pair_of c.args.st.e)) marked
+first_is c marked = c.turned-first.ensures.1 ∙ c.flipped.ensures ∙ ap (flipped (pair_of c.args.st.e)) marked
 
 pub flipped-requires : goal.flipped-requires
 flipped-requires c =
     let l = level_of c.args.level in
-    (c.requires.fact_2.1.1, inside_by l.r c.marks-m.ensures.fact_1.0 (reaching_in l.r (key_of l c.args.key) _ _))
+    (c.requires.fact_2.1.1, inside_by l.r c.marks-m.ensures.0 (reaching_in l.r (key_of l c.args.key) _ _))
 
 pub turned-first-requires : goal.turned-first-requires
 turned-first-requires c =
     let l = level_of c.args.level in
-    let marked = inside_by l.r c.marks-m.ensures.fact_1.0 (reaching_in l.r (key_of l c.args.key) _ _) in
+    let marked = inside_by l.r c.marks-m.ensures.0 (reaching_in l.r (key_of l c.args.key) _ _) in
     record {
       fact_1 = c.requires.fact_1;
       fact_2 = (c.requires.fact_2.0, inside_by l.r c.flipped.ensures (flipped_in l.r _ _ c.requires.fact_2.1.1 marked));
-      fact_3 = c.marks-m.ensures.fact_2;
     }
 
 pub returns-then-i-gt0 : goal.returns-then-i-gt0
@@ -73,10 +72,7 @@ returns-then-i-gt0 c =
     let made = c.turned-first.ensures in
     let marked = black_is (goal.at.returns-then-i-gt0 c).After-marks-m in
     let first = first_is (goal.at.returns-then-i-gt0 c).After-turned-first marked in
-    record {
-      fact_1 = (made.fact_1.0, first ∙ sym (step_later l (key_of l start.key) (bits 64 start.s) (pair_of start.st.e) start.i later));
-      fact_2 = made.fact_2;
-    }
+    (made.0, first ∙ sym (step_later l (key_of l start.key) (bits 64 start.s) (pair_of start.st.e) start.i later))
 
 pub returns : goal.returns
 unfolding gray
@@ -87,16 +83,13 @@ returns c =
     let s = bits 64 start.s in
     let marked = black_is (goal.at.returns c).After-marks-m in
     let first : start.i ≤ 0 = omega arith in
-    let made = c.masked_step.ensures in record {
-      fact_1 = (
-        made.fact_1.0,
-        made.fact_1.1
-            ∙ ap₂ (masked_step l h s) (c.without-gray.ensures ∙ ap₂ without (wide_is (goal.at.returns c).After-marks-m) marked)
-            (c.masked_step-second.ensures.fact_1.1 ∙ ap₂ (masked_step l h s) marked (first_is (goal.at.returns c).After-turned-first marked))
-            ∙ sym (step_first l h s (pair_of start.st.e) start.i first),
-      );
-      fact_2 = made.fact_2;
-    }
+    let made = c.masked_step.ensures in (
+      made.0,
+      made.1
+          ∙ ap₂ (masked_step l h s) (c.without-gray.ensures ∙ ap₂ without (wide_is (goal.at.returns c).After-marks-m) marked)
+          (c.masked_step-second.ensures.1 ∙ ap₂ (masked_step l h s) marked (first_is (goal.at.returns c).After-turned-first marked))
+          ∙ sym (step_first l h s (pair_of start.st.e) start.i first),
+    )
 
 pub bound_of-t-requires : goal.bound_of-t-requires
 bound_of-t-requires c = carried_in c.args.level _ _ _ c.requires.fact_2.0 c.requires.fact_2.1
@@ -109,31 +102,8 @@ marks-m-requires c = let small = c.bound_of-t.ensures.1 in
     record {
       fact_1 = c.requires.fact_1;
       fact_2 = carried_in c.args.level _ _ _ c.requires.fact_2.0 c.requires.fact_2.1;
-      fact_3 = c.requires.fact_3;
-      fact_4 = (small, omega (arith, small));
+      fact_3 = (small, omega (arith, small));
     }
-
-pub shape_of-f-then-i-gt0 : goal.shape_of-f-then-i-gt0
-shape_of-f-then-i-gt0 c = c.turned-first.auto.f ∙ c.marks-m.auto.f
 
 pub without-gray-requires : goal.without-gray-requires
-without-gray-requires c = let l = level_of c.args.level in inside_by l.r c.marks-m.ensures.fact_1.1 (reaching_in l.r (key_of l c.args.key) _ _)
-
-pub masked_step-second-requires : goal.masked_step-second-requires
-masked_step-second-requires c =
-    record {
-      fact_1 = c.requires.fact_1;
-      fact_2 = (c.requires.fact_2.0, c.turned-first.ensures.fact_1.0);
-      fact_3 = c.turned-first.ensures.fact_2;
-    }
-
-pub masked_step-requires : goal.masked_step-requires
-masked_step-requires c =
-    record {
-      fact_1 = c.requires.fact_1;
-      fact_2 = (c.requires.fact_2.0, c.masked_step-second.ensures.fact_1.0);
-      fact_3 = c.masked_step-second.ensures.fact_2;
-    }
-
-pub shape_of-f : goal.shape_of-f
-shape_of-f c = c.masked_step.auto.f ∙ c.masked_step-second.auto.f ∙ c.turned-first.auto.f ∙ c.marks-m.auto.f
+without-gray-requires c = let l = level_of c.args.level in inside_by l.r c.marks-m.ensures.1 (reaching_in l.r (key_of l c.args.key) _ _)

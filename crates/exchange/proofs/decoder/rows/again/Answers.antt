@@ -1,5 +1,5 @@
 -- `again`: before turn j all words below j are laid.
-use mathlib.Core.Path.{◌≡◌, refl, sym, ap, ◌∙◌}
+use mathlib.Core.Path.{◌≡◌, sym, ap, ◌∙◌}
 use mathlib.Core.List.{◌∷◌, []}
 use Prim.Native.Nat.{ℕ, ◌+◌, ◌-◌, ◌*◌, ◌/◌, ◌%◌, ◌<◌}
 use native.Mathlib.Omega.{arith}
@@ -26,18 +26,5 @@ loop-j-preserved c =
     ∙ ap (bits 64 x) place ∙ sym (twice_high r (bits 64 x) (64 * was.j + e) (omega arith)) in (
       omega arith,
       omega arith,
-      c.lay_eight.auto.out ∙ was.invariant.2,
-      c.lay_eight.ensures ∙ laid (twice r (bits 64 x)) was.j joined.result word given.f.now was.f (omega arith) was.invariant.3,
+      c.lay_eight.ensures ∙ laid (twice r (bits 64 x)) was.j joined.result word given.f.now was.f (omega arith) was.invariant.2,
     )
-
-pub returns : goal.returns
-returns c =
-    let was = c.loop-j in
-    let all : was.j ≡ (2 * c.args.r + 63) / 64 = omega arith in
-    rw (← all) was.invariant.3
-
-pub loop-j-init : goal.loop-j-init
-loop-j-init c = (omega arith, omega arith, refl, c.requires.fact_3)
-
-pub shape_of-f : goal.shape_of-f
-shape_of-f c = c.loop-j.invariant.2

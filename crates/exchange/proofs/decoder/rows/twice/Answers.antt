@@ -10,13 +10,9 @@ use Rattle.hashing.specs.Lists.{bits}
 use Rattle.hashing.proofs.Lists.{filled_again}
 use Rattle.ring.specs.Bytes.{list_of}
 use Rattle.exchange.specs.inner.ByteRows.{twice}
-use Rattle.exchange.proofs.decoder.rows.Laws.{twice_low, laid, filled_length, filled_drop, list_of_ext, seam}
+use Rattle.exchange.proofs.decoder.rows.Laws.{twice_low, laid, filled_drop, list_of_ext, seam}
 use Rattle.exchange.proofs.decoder.rows.twice.Goals as goal
 use Rattle.exchange.proofs.decoder.rows.twice.Goals.{After-lay_eight, After-store, Start}
-
--- the whole words below that of r
-whole : (c : Start) → length (take (8 * (c.args.r / 64)) c.args.f.now) ≡ 8 * (c.args.r / 64)
-whole c = length-take-le _ _ (omega arith)
 
 first_is : (r : ℕ) (x f out : List ℕ) → 64 ≤ r → 8 * (r / 64) ≤ length f → out ≡ list_of 8 (length (take (8 * (r / 64)) f)) (bits 64 x)
     → out ++ drop (8 * (r / 64)) f ≡ list_of 8 (8 * (r / 64)) (twice r (bits 64 x)) ++ drop (8 * (r / 64)) f
@@ -24,9 +20,6 @@ first_is r x f out big room is =
     ap (λ (xs : List ℕ). xs ++ drop (8 * (r / 64)) f)
     (is ∙ ap (λ (n : ℕ). list_of 8 n (bits 64 x)) (length-take-le (8 * (r / 64)) f room)
     ∙ list_of_ext (8 * (r / 64)) (λ k below. sym (twice_low r (bits 64 x) k (omega arith))))
-
-pub lay_eight-requires : goal.lay_eight-requires
-lay_eight-requires c = rw (ap length (first_is c.args.r c.args.x c.args.f.now c.store.new.out (omega arith) (omega arith) c.store.ensures) ∙ filled_length _ _ _ (omega arith)) (omega arith)
 
 laid_is : (c : After-lay_eight) →
     let start = c.args in
@@ -60,15 +53,3 @@ last_is r x f out last big room laid is =
 pub returns : goal.returns
 returns c =
     last_is c.args.r c.args.x c.args.f.now _ _ (omega arith) (omega arith) (laid_is (goal.at.returns c).After-lay_eight) c.again.ensures
-
-pub slice_bounds-store-end-2 : goal.slice_bounds-store-end-2
-slice_bounds-store-end-2 c = sym (whole (goal.at.slice_bounds-store-end-2 c).Start)
-
-pub store-requires : goal.store-requires
-store-requires c = rw (whole (goal.at.store-requires c).Start) (omega arith)
-
-pub shape_of-f : goal.shape_of-f
-shape_of-f c =
-    ap length
-    (last_is c.args.r c.args.x c.args.f.now _ _ (omega arith) (omega arith) (laid_is (goal.at.shape_of-f c).After-lay_eight) c.again.ensures)
-    ∙ filled_length _ _ _ (omega arith)
