@@ -39,10 +39,6 @@ module _ {level : ℕ} {key map : List ℕ} {room : ℕ} where
         room_is = agree _ _ one.1;
       }
 
-  pub writing_none : WritingClear level key map room → first_of (writing_reasons level key map room) ≡ 0
-  unfolding writing_reasons first_of differs
-  writing_none is = rw (is.level_known, eq-eqb _ _ is.key_size, eq-eqb _ _ is.map_size, eq-eqb _ _ is.room_is)
-
 -- the form of a record
 pub record FormClear (level : ℕ) (bytes : List ℕ) : Type 0 where
   pub whole : record_bytes ≤ length bytes

@@ -9,11 +9,11 @@ use lib.Arith.{lt-one}
 use lib.Dec.{lit<}
 use lib.ListN.{length, take, drop, length-append, length-drop}
 use lib.Seq.{take_at, drop_at, take-add, drop-drop, length-take-le}
+use Rattle.std.specs.Int.{w32, to_le_bytes}
 use Rattle.hashing.specs.Kmac.{kmac256, cshake256}
 use Rattle.hashing.proofs.sponge.Squeezing.{sponge-length}
 use Rattle.ring.specs.Bytes.{little_endian}
 use Rattle.ring.proofs.Layouts.{Below}
-use Rattle.exchange.specs.Doors.{four_bytes}
 use Rattle.exchange.specs.Records.{body_of, kind_of}
 use Rattle.exchange.proofs.Streams.{below_take, below_drop}
 use Rattle.maps.specs.Writes.{map_bytes, tag_bytes, covered_bytes, map_body, record_bytes, map_kind, little_bytes, covered, tag_of, written, kart_in, counter_in, map_in, covered_in, tag_in}
@@ -38,9 +38,9 @@ bytes_back (suc n) (x ∷ xs) long small =
     let high : (x + 256 * little_endian xs) / 256 ≡ little_endian xs = omega arith in
     rw (low, high) (ap (◌∷◌ x) (bytes_back n xs (omega arith) (λ i. small (suc i))))
 
--- four of them, as a report has them
-pub four_little : (x : ℕ) → four_bytes x ≡ little_bytes 4 x
-unfolding four_bytes little_bytes
+-- four of them, as the library has them
+pub four_little : (x : ℕ) → to_le_bytes w32 x ≡ little_bytes 4 x
+unfolding little_bytes
 four_little x =
     let third : x / 65536 ≡ x / 256 / 256 = omega arith in
     let fourth : x / 16777216 ≡ x / 256 / 256 / 256 = omega arith in
@@ -55,10 +55,6 @@ tag_length key bytes = sponge-length 136 (lit< tt) 0x04 _ tag_bytes
 pub covered-length : (level kart counter : ℕ) (map : List ℕ) → length map ≡ map_bytes → length (covered level kart counter map) ≡ covered_bytes
 unfolding covered little_bytes
 covered-length level kart counter map size = rw size
-
-pub covered_lent : (what after : List ℕ) → length what ≡ covered_bytes → take 266 (drop 4 ((little_bytes 4 map_body ++ what) ++ after)) ≡ what
-unfolding little_bytes
-covered_lent what after size = take_at what after covered_bytes size
 
 -- and read back, with any bytes after it
 module _ (level : ℕ) (key : List ℕ) (kart counter : ℕ) (map : List ℕ) (size : length map ≡ map_bytes) (after : List ℕ) where

@@ -1,6 +1,9 @@
-// The doors that `maps_c` offers to C. A door keeps its entry's promise; the last counter is changed in place.
+// The doors that `maps_c` offers to C, with answers in numbers as C reads them. A door keeps its entry's promise; the
+// last counter is changed in place.
 ghost use Rattle.std.specs.Prelude.{length};
 ghost use Rattle.maps.specs.Promises.{WriteMapPromise, AcceptMapPromise};
+
+use hashing::refusal::answer;
 
 pub fn bike_map_write(
     level: u32,
@@ -13,7 +16,7 @@ pub fn bike_map_write(
     ensures { WriteMapPromise level session_key.now kart counter map.now (length bytes.old)
         result bytes.new }
 {
-    crate::write_map(level, session_key, kart, counter, map, bytes)
+    answer(crate::write_map(level, session_key, kart, counter, map, bytes))
 }
 
 pub fn bike_map_accept(
@@ -27,7 +30,11 @@ pub fn bike_map_accept(
     ensures { AcceptMapPromise level session_key.now kart bytes.now stored_map.old last_counter.old
         result stored_map.new last_counter.new }
 {
-    let accepted = crate::accept_map(level, session_key, kart, bytes, stored_map, *last_counter);
-    *last_counter = accepted.counter;
-    accepted.answer
+    match crate::accept_map(level, session_key, kart, bytes, stored_map, *last_counter) {
+        Ok(counter) => {
+            *last_counter = counter;
+            0
+        }
+        Err(refusal) => refusal.number(),
+    }
 }

@@ -10,15 +10,18 @@ pub mod tag;
 pub mod writing;
 
 ghost use Rattle.std.specs.Prelude.{length};
+ghost use Rattle.hashing.specs.Refusals.{answer};
+ghost use Rattle.maps.specs.Keeping.{kept};
 ghost use Rattle.maps.specs.Promises.{WriteMapPromise, AcceptMapPromise};
 
-use exchange::bytes::copy;
-use hashing::refuse;
+use hashing::Refusal;
+use hashing::fill::zero;
 use ring::little_endian;
 
 pub const NEW_SESSION: u32 = 0;
 
-// The record of a map for a kart. It compares no counters.
+// The record of a map for a kart. It compares no counters. Level, key and kart stay parameters here and below: C lends
+// each by itself, and a struct would be filled at every entry.
 pub fn write_map(
     level: u32,
     session_key: &[u8],
@@ -26,26 +29,20 @@ pub fn write_map(
     counter: u32,
     map: &[u8],
     bytes: &mut [u8],
-) -> u32
+) -> Result<(), Refusal>
     ensures { WriteMapPromise level session_key.now kart counter map.now (length bytes.old)
-        result bytes.new }
+        (answer result) bytes.new }
 {
-    let answer = judge::writing(level, session_key, map, bytes.len());
-    if answer != 0 {
-        return refuse::one(answer, bytes);
+    if let Err(refusal) = judge::writing(level, session_key, map, bytes.len()) {
+        zero(bytes);
+        return Err(refusal);
     }
     writing::write(level, session_key, kart, counter, map, bytes);
-    0
+    Ok(())
 }
 
-// The answer, and the counter to keep.
-#[derive(Drop)]
-pub struct Accepted {
-    pub answer: u32,
-    pub counter: u32,
-}
-
-// A record at the controller with this kart number: `map` is the stored map and `last` the last accepted counter.
+// A record at the controller with this kart number: `map` is the stored map and `last` the last accepted counter. The
+// counter to keep is the record's, or `last` where the record is refused.
 pub fn accept_map(
     level: u32,
     session_key: &[u8],
@@ -53,20 +50,11 @@ pub fn accept_map(
     bytes: &[u8],
     map: &mut [u8],
     last: u32,
-) -> Accepted
+) -> Result<u32, Refusal>
     ensures { AcceptMapPromise level session_key.now kart bytes.now map.old last
-        result.answer map.new result.counter }
+        (answer result) map.new (kept last result) }
 {
-    let number = judge::accepting(level, session_key, kart, bytes, map.len(), last);
-    if number != 0 {
-        return Accepted {
-            answer: number,
-            counter: last,
-        };
-    }
-    copy(&bytes[parts::MAP_AT..parts::TAG_AT], map);
-    Accepted {
-        answer: 0,
-        counter: little_endian::four(bytes, parts::COUNTER_AT),
-    }
+    judge::accepting(level, session_key, kart, bytes, map.len(), last)?;
+    map.copy_from_slice(&bytes[parts::MAP_AT..parts::TAG_AT]);
+    Ok(little_endian::four(bytes, parts::COUNTER_AT))
 }

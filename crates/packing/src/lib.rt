@@ -9,14 +9,15 @@ pub mod size;
 
 ghost use Rattle.std.specs.Prelude.{◌≡◌, length};
 ghost use Rattle.hashing.specs.Answers.{first_of};
+ghost use Rattle.hashing.specs.Refusals.{answer};
 ghost use Rattle.ring.specs.Levels.{level_of};
 ghost use Rattle.packing.specs.Packing;
 ghost use Rattle.packing.specs.Promises.{pack_reasons, PackPromise, unpack_reasons, UnpackPromise};
 
-use exchange::bytes;
 use exchange::decoder::{is_good, read_key};
-use hashing::refuse;
-use ring::size::TAIL;
+use hashing::Refusal;
+use hashing::fill::zero;
+use ring::size::{TAIL, position_bits};
 
 // A position has this many bits in a private key.
 const TWO_BYTES: usize = 16;
@@ -27,15 +28,9 @@ fn write_packed(level: u32, private_key: &[u8], packed: &mut [u8])
     ensures { packed.new ≡ Packing.packed (level_of level) private_key.now }
 {
     let n = size::positions(level);
-    let at = 2 * n;
-    bytes::copy(&private_key[at..], &mut packed[..TAIL]);
-    row::lay(
-        private_key,
-        n,
-        TWO_BYTES,
-        ring::size::position_bits(level),
-        &mut packed[TAIL..],
-    );
+    let (tail, positions) = packed.split_at_mut(TAIL);
+    tail.copy_from_slice(&private_key[2 * n..]);
+    row::lay(private_key, n, TWO_BYTES, position_bits(level), positions);
 }
 
 // Unpacking, once it is judged.
@@ -44,40 +39,37 @@ fn write_unpacked(level: u32, packed: &[u8], private_key: &mut [u8])
     ensures { private_key.new ≡ Packing.unpacked (level_of level) packed.now }
 {
     let n = size::positions(level);
-    let at = 2 * n;
-    row::lay(
-        &packed[TAIL..],
-        n,
-        ring::size::position_bits(level),
-        TWO_BYTES,
-        &mut private_key[..at],
-    );
-    bytes::copy(&packed[..TAIL], &mut private_key[at..]);
+    let (tail, row) = packed.split_at(TAIL);
+    let (positions, rest) = private_key.split_at_mut(2 * n);
+    row::lay(row, n, position_bits(level), TWO_BYTES, positions);
+    rest.copy_from_slice(tail);
 }
 
 // The packed form of a private key.
-pub fn pack(level: u32, private_key: &[u8], packed: &mut [u8]) -> u32
-    ensures { PackPromise level private_key.now (length packed.old) result packed.new }
+pub fn pack(level: u32, private_key: &[u8], packed: &mut [u8]) -> Result<(), Refusal>
+    ensures { PackPromise level private_key.now (length packed.old) (answer result) packed.new }
 {
-    let answer = judge::packing(level, private_key, packed.len());
-    if answer != 0 {
-        return refuse::one(answer, packed);
+    if let Err(refusal) = judge::packing(level, private_key, packed.len()) {
+        zero(packed);
+        return Err(refusal);
     }
     write_packed(level, private_key, packed);
-    0
+    Ok(())
 }
 
 // The private key of a packed form. Its positions are judged where they stand unpacked.
-pub fn unpack(level: u32, packed: &[u8], private_key: &mut [u8]) -> u32
-    ensures { UnpackPromise level packed.now (length private_key.old) result private_key.new }
+pub fn unpack(level: u32, packed: &[u8], private_key: &mut [u8]) -> Result<(), Refusal>
+    ensures { UnpackPromise level packed.now (length private_key.old) (answer result)
+        private_key.new }
 {
-    let answer = judge::unpacking(level, packed, private_key.len());
-    if answer != 0 {
-        return refuse::one(answer, private_key);
+    if let Err(refusal) = judge::unpacking(level, packed, private_key.len()) {
+        zero(private_key);
+        return Err(refusal);
     }
     write_unpacked(level, packed, private_key);
     if !is_good(level, read_key(level, private_key)) {
-        return refuse::one(4, private_key);
+        zero(private_key);
+        return Err(Refusal::BadPosition);
     }
-    0
+    Ok(())
 }

@@ -8,43 +8,40 @@ ghost use Rattle.ring.specs.inner.Sizes.{word_bytes};
 ghost use Rattle.packing.specs.Packing.{in_row};
 ghost use Rattle.packing.specs.inner.Widths.{Widths};
 
-// Bit n of the bytes.
-fn bit(bytes: &[u8], n: usize) -> u8
-    requires { n < 8 * length bytes.now }
-    ensures { result ≡ Polynomials.bit (bits 8 bytes.now n) }
-{
-    (bytes[n / 8] >> (n % 8)) % 2
+// The `count` numbers that stand in the bytes with `from` bits each, as a row with `to` bits each.
+#[derive(Drop)]
+struct Row<'a> {
+    bytes: &'a [u8],
+    count: usize,
+    from: usize,
+    to: usize,
+    ghost widths: { Widths count from to bytes.now },
 }
 
-// Bit n of the row with `to` bits a number, of the `count` numbers with `from` bits each: 0 after the last number, and
-// where a number has fewer bits.
-fn bit_at(bytes: &[u8], count: usize, from: usize, to: usize, n: usize) -> u8
-    requires { Widths count from to bytes.now }
-    ensures { result ≡ Polynomials.bit (bits to (in_row from count bytes.now) n) }
-{
-    let i = n / to;
-    let k = n % to;
-    if count <= i {
-        return 0;
+impl Row<'_> {
+    // Bit n of the row: 0 after the last number, and where a number has fewer bits.
+    fn bit(&self, n: usize) -> u8
+        ensures { result ≡ Polynomials.bit (bits self.now.to (in_row self.now.from self.now.count self.now.bytes.now) n) }
+    {
+        let i = n / self.to;
+        let k = n % self.to;
+        if self.count <= i || self.from <= k {
+            return 0;
+        }
+        let at = i * self.from + k;
+        (self.bytes[at / 8] >> (at % 8)) % 2
     }
-    if from <= k {
-        return 0;
-    }
-    bit(bytes, i * from + k)
-}
 
-fn byte_at(bytes: &[u8], count: usize, from: usize, to: usize, j: usize) -> u8
-    requires fact_1 { Widths count from to bytes.now }
-    requires fact_2 { j < word_bytes }
-    ensures { result ≡ number 8 (λ e. bits to (in_row from count bytes.now) (j * 8 + e)) }
-{
-    let mut byte = 0;
-    let mut k = 0usize;
-    while k < 8 {
-        byte = byte + (bit_at(bytes, count, from, to, j * 8 + k) << k);
-        k += 1;
+    fn byte(&self, j: usize) -> u8
+        requires { j < word_bytes }
+        ensures { result ≡ number 8 (λ e. bits self.now.to (in_row self.now.from self.now.count self.now.bytes.now) (j * 8 + e)) }
+    {
+        let mut byte = 0;
+        for k in 0usize..8 {
+            byte = byte + (self.bit(j * 8 + k) << k);
+        }
+        byte
     }
-    byte
 }
 
 // As many bytes of the row as `out` has.
@@ -53,9 +50,13 @@ pub fn lay(bytes: &[u8], count: usize, from: usize, to: usize, out: &mut [u8])
     requires fact_2 { length out.old ≤ word_bytes }
     ensures { out.new ≡ list_of 8 (length out.old) (bits to (in_row from count bytes.now)) }
 {
-    let mut i = 0;
-    while i < out.len() {
-        out[i] = byte_at(bytes, count, from, to, i);
-        i += 1;
+    let row = Row {
+        bytes,
+        count,
+        from,
+        to,
+    };
+    for (j, byte) in out.iter_mut().enumerate() {
+        *byte = row.byte(j);
     }
 }

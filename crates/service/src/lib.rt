@@ -6,18 +6,21 @@ pub mod judge;
 mod rotation;
 
 ghost use Rattle.std.specs.Prelude.{length};
+ghost use Rattle.hashing.specs.Refusals.{answer};
 ghost use Rattle.service.specs.Rotation.{RotateKeyPromise};
 
-use hashing::refuse;
+use hashing::Refusal;
+use hashing::fill::zero;
 
 // The private key with both halves times X^k.
-pub fn rotate_key(level: u32, k: u32, private_key: &[u8], rotated: &mut [u8]) -> u32
-    ensures { RotateKeyPromise level k private_key.now (length rotated.old) result rotated.new }
+pub fn rotate_key(level: u32, k: u32, private_key: &[u8], rotated: &mut [u8]) -> Result<(), Refusal>
+    ensures { RotateKeyPromise level k private_key.now (length rotated.old) (answer result)
+        rotated.new }
 {
-    let answer = judge::rotating(level, k, private_key, rotated.len());
-    if answer != 0 {
-        return refuse::one(answer, rotated);
+    if let Err(refusal) = judge::rotating(level, k, private_key, rotated.len()) {
+        zero(rotated);
+        return Err(refusal);
     }
     rotation::write(level, k, private_key, rotated);
-    0
+    Ok(())
 }

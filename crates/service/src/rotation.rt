@@ -11,17 +11,12 @@ ghost use Rattle.service.specs.Rotation.{rotate_key_reasons};
 
 use exchange::decoder::read_key;
 use exchange::error;
-use exchange::keys::{KeyWords, write_private};
-use ring::frame::zeros;
+use exchange::halves::Halves;
+use exchange::keys::write_private;
+use hashing::fill::filled;
 use ring::positions::moved;
 use ring::size::MOST_D;
 use ring::{WORDS, size};
-
-fn no_positions() -> [u32; MOST_D]
-    ensures { most_d ≡ length result }
-{
-    [0; MOST_D]
-}
 
 // Each position moved on by k, at the front of the list.
 fn moved_on(r: usize, k: usize, h: &[u16]) -> [u32; MOST_D]
@@ -29,11 +24,9 @@ fn moved_on(r: usize, k: usize, h: &[u16]) -> [u32; MOST_D]
     requires fact_2 { InRing r (support h.now) }
     ensures { (length result ≡ most_d) × (take (length h.now) result ≡ map (λ p. (p + k) % r) h.now) }
 {
-    let mut list = no_positions();
-    let mut i = 0;
-    while i < h.len() {
-        list[i] = moved(r, h[i] as usize, k) as u32;
-        i += 1;
+    let mut list = [0; MOST_D];
+    for (i, &at) in h.iter().enumerate() {
+        list[i] = moved(r, at as usize, k) as u32;
     }
     list
 }
@@ -45,9 +38,8 @@ fn turned(r: usize, k: usize, h: &[u16]) -> [u64; WORDS]
     ensures { bits 64 result ≡ Rotation.turned r k (support h.now) }
 {
     let list = moved_on(r, k, h);
-    let n = h.len();
-    let mut x = zeros();
-    error::place(&list[..n], &mut x);
+    let mut x: [u64; WORDS] = filled(0);
+    error::place(&list[..h.len()], &mut x);
     x
 }
 
@@ -60,9 +52,7 @@ pub fn write(level: u32, k: u32, private_key: &[u8], rotated: &mut [u8])
     let d = size::key_weight(level);
     let at = 4 * d;
     let key = read_key(level, private_key);
-    let p0 = key.h0;
-    let p1 = key.h1;
-    let h0 = turned(r, k as usize, &p0[..d]);
-    let h1 = turned(r, k as usize, &p1[..d]);
-    write_private(level, KeyWords { h0, h1 }, &private_key[at..], rotated);
+    let half0 = turned(r, k as usize, &key.half0[..d]);
+    let half1 = turned(r, k as usize, &key.half1[..d]);
+    write_private(level, Halves { half0, half1 }, &private_key[at..], rotated);
 }

@@ -1,19 +1,13 @@
 -- `write_map` writes where its judge finds nothing.
-use mathlib.Core.Path.{sym, ◌∙◌}
-use Rattle.hashing.proofs.Answers.{done, refused}
+use mathlib.Core.Path.{sym}
+use Rattle.hashing.proofs.Answers.{done, refuses}
 use Rattle.maps.specs.Promises.{write_map_says}
 use Rattle.maps.proofs.write_map.Goals as goal
 
-pub returns-then-answer-ne0 : goal.returns-then-answer-ne0
+pub returns-in-Err : goal.returns-in-Err
 unfolding write_map_says
-returns-then-answer-ne0 c =
-    rw (c.one.ensures.0, c.one.ensures.1)
-    (sym (refused _ _ c.writing-answer.ensures c.if-answer-ne0.true))
+returns-in-Err c = rw c.zero.ensures (sym (refuses _ _ c.in-Err.refusal c.in-Err.ensures))
 
 pub returns : goal.returns
 unfolding write_map_says
-returns c =
-    rw (done _ _ (sym c.writing-answer.ensures ∙ c.if-answer-ne0.false), c.write.ensures)
-
-pub write-requires : goal.write-requires
-write-requires c = sym c.writing-answer.ensures ∙ c.if-answer-ne0.false
+returns c = rw (done _ _ (sym c.in_default.ensures), c.write.ensures)

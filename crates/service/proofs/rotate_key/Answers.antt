@@ -1,16 +1,13 @@
 -- `rotate_key` writes where its judge finds nothing.
-use mathlib.Core.Path.{sym, ◌∙◌}
-use Rattle.hashing.proofs.Answers.{done, refused}
+use mathlib.Core.Path.{sym}
+use Rattle.hashing.proofs.Answers.{done, refuses}
 use Rattle.service.specs.Rotation.{rotate_key_says}
 use Rattle.service.proofs.rotate_key.Goals as goal
 
-pub returns-then-answer-ne0 : goal.returns-then-answer-ne0
+pub returns-in-Err : goal.returns-in-Err
 unfolding rotate_key_says
-returns-then-answer-ne0 c =
-    rw (c.one.ensures.0, c.one.ensures.1)
-    (sym (refused _ _ c.rotating-answer.ensures c.if-answer-ne0.true))
+returns-in-Err c = rw c.zero.ensures (sym (refuses _ _ c.in-Err.refusal c.in-Err.ensures))
 
 pub returns : goal.returns
 unfolding rotate_key_says
-returns c =
-    rw (done _ _ (sym c.rotating-answer.ensures ∙ c.if-answer-ne0.false), c.write.ensures)
+returns c = rw (done _ _ (sym c.in_default.ensures), c.write.ensures)

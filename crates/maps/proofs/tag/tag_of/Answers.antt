@@ -4,4 +4,4 @@ use Rattle.maps.proofs.tag.tag_of.Goals as goal
 
 pub returns : goal.returns
 unfolding tag_of customization
-returns c = rw (← c.no_tag-out.ensures) at c.kmac256.ensures
+returns c = c.kmac256.ensures

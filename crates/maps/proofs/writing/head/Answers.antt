@@ -1,8 +1,5 @@
 -- `head` puts its numbers one after the other.
-use mathlib.Core.Path.{◌≡◌}
-use Prim.Native.Nat.{◌+◌, ◌*◌, ◌/◌, ◌%◌}
-use native.Mathlib.Nat.{mod-eq_of_lt}
-use native.Mathlib.Omega.{arith}
+use mathlib.Core.Path.{◌∙◌}
 use Rattle.maps.specs.Writes.{little_bytes, map_kind}
 use Rattle.maps.proofs.Written.{four_little}
 use Rattle.maps.proofs.writing.head.Goals as goal
@@ -10,7 +7,14 @@ use Rattle.maps.proofs.writing.head.Goals as goal
 pub returns : goal.returns
 unfolding little_bytes map_kind
 returns c =
-    let level = c.args.level in
-    let low : (256 * level + 7) % 256 ≡ 7 = omega arith in
-    let high : (256 * level + 7) / 256 ≡ level = omega arith in
-    rw (c.four_bytes-k.ensures, c.four_bytes-c.ensures, four_little c.args.kart, four_little c.args.counter, low, high, mod-eq_of_lt c.requires)
+    rw (
+      c.copy_from_slice.ensures.after,
+      c.to_le_bytes.ensures,
+      c.copy_from_slice-2.ensures.after,
+      c.to_le_bytes-2.ensures,
+      c.kind.ensures,
+      c.copy_from_slice-3.ensures.after,
+      c.to_le_bytes-3.ensures ∙ four_little c.args.kart,
+      c.copy_from_slice-4.ensures.after,
+      c.to_le_bytes-4.ensures ∙ four_little c.args.counter,
+    )

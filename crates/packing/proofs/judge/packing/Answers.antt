@@ -1,9 +1,7 @@
 -- `packing` goes down the column of packing.
-use mathlib.Core.Path.{◌≡◌, ◌∙◌}
+use mathlib.Core.Path.{◌≡◌}
 use Rattle.hashing.specs.Answers.{differs, first_of}
-use Rattle.hashing.proofs.Answers.{agree}
 use Rattle.ring.specs.Levels.{level_of}
-use Rattle.ring.proofs.Bools.{both_false}
 use Rattle.exchange.specs.decoder.PrivateKey.{good_key}
 use Rattle.exchange.proofs.decoder.Laws.{read_good}
 use Rattle.packing.specs.Promises.{pack_reasons}
@@ -24,10 +22,6 @@ returns-then-private_key-room c =
       ← c.packed_key.ensures,
       c.if-private_key-room.true,
     )
-
-pub read_key-requires : goal.read_key-requires
-unfolding differs
-read_key-requires c = agree _ _ (both_false _ _ c.if-private_key-room.false).0 ∙ c.private_key.ensures
 
 good_is : (c : After-is_good) →
     let given = c.args in

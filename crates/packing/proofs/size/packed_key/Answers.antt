@@ -5,6 +5,3 @@ use Rattle.packing.proofs.size.packed_key.Goals as goal
 
 pub byte_length-requires : goal.byte_length-requires
 byte_length-requires c = omega (arith, row_small c.args.level, c.packed_bits.ensures)
-
-pub overflow_add-result : goal.overflow_add-result
-overflow_add-result c = omega (arith, row_small c.args.level, c.packed_bits.ensures)

@@ -1,16 +1,17 @@
 -- `moved_on` moves the positions on: before turn i the first i are there.
-use mathlib.Core.Path.{◌≡◌, refl, sym, ◌∙◌}
-use Prim.Native.Nat.{◌+◌, ◌≤◌, ◌<◌}
+use mathlib.Core.Path.{◌≡◌, refl, ◌∙◌}
+use Prim.Native.Nat.{ℕ, ◌+◌, ◌≤◌, ◌<◌}
 use native.Mathlib.Nat.{mod-lt}
 use native.Mathlib.Omega.{arith}
-use lib.ListN.{length, get_or, length-set}
+use lib.ListN.{length, get_or, length-set, length-replicate}
 use lib.Seq.{take_all}
+use Rattle.ring.specs.inner.Sizes.{most_d}
 use Rattle.service.proofs.Positions.{at_below, moved_more}
 use Rattle.service.proofs.rotation.moved_on.Goals as goal
-use Rattle.service.proofs.rotation.moved_on.Goals.{After-shared_slice_known-in-loop-i-1}
+use Rattle.service.proofs.rotation.moved_on.Goals.{In-loop-i}
 
 -- the position of this turn
-below : (c : After-shared_slice_known-in-loop-i-1) →
+below : (c : In-loop-i) →
     get_or c.args.h.now c.loop-i.i 0 < c.args.r
 below c =
     let more : c.loop-i.i < length c.args.h.now = omega arith in
@@ -18,7 +19,7 @@ below c =
 
 pub moved-requires : goal.moved-requires
 moved-requires c =
-    (below (goal.at.moved-requires c).After-shared_slice_known-in-loop-i-1, omega arith, c.requires.fact_1.1)
+    (below (goal.at.moved-requires c).In-loop-i, omega arith, c.requires.fact_1.1)
 
 pub overflow_cast-list : goal.overflow_cast-list
 overflow_cast-list c =
@@ -43,7 +44,4 @@ returns c =
     (done.invariant.1, rw (← all) (done.invariant.2 ∙ rw (take_all done.i h whole)))
 
 pub loop-i-init : goal.loop-i-init
-loop-i-init c = (omega arith, sym c.no_positions-list.ensures, refl)
-
-pub overflow_cast-h : goal.overflow_cast-h
-overflow_cast-h c = omega (arith, below (goal.at.overflow_cast-h c).After-shared_slice_known-in-loop-i-1)
+loop-i-init c = (omega arith, length-replicate {A = ℕ} most_d 0, refl)

@@ -1,7 +1,7 @@
 -- `moved_on` moves the positions on: before turn i the first i are there.
 use mathlib.Core.Path.{◌≡◌}
 use mathlib.Core.List.{map}
-use Prim.Native.Nat.{◌-◌, ◌≤◌}
+use Prim.Native.Nat.{◌≤◌}
 use lib.ListN.{length, take}
 use Rattle.ring.specs.inner.Sizes.{most_d}
 use Rattle.service.proofs.Positions.{on}
@@ -9,6 +9,3 @@ use Rattle.service.proofs.rotation.moved_on.Given as goal
 
 abbrev pub invariant-loop-i : goal.invariant-loop-i
 invariant-loop-i l = (l.i ≤ length l.h) × (length l.list ≡ most_d) × (take l.i l.list ≡ map (on l.r l.k) (take l.i l.h))
-
-abbrev pub decreases-loop-i : goal.decreases-loop-i
-decreases-loop-i l = length l.h - l.i

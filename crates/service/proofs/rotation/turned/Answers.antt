@@ -13,8 +13,8 @@ use Rattle.service.proofs.rotation.turned.Goals as goal
 
 pub place-requires : goal.place-requires
 place-requires c =
-    let zeros = c.zeros-x.ensures in
-    let long : length c.zeros-x.result ≡ words = ap length zeros ∙ length-replicate {A = ℕ} words 0 in
+    let zeros = c.filled-x.ensures in
+    let long : length c.filled-x.result ≡ words = ap length zeros ∙ length-replicate {A = ℕ} words 0 in
     let pos : 0 < c.args.r = omega arith in
     record {
       fact_1 = zeros ∙ ap (λ (n : ℕ). replicate n 0) (sym long);

@@ -1,4 +1,4 @@
--- `byte_at`: before turn k the first k bits are added.
+-- `byte`: before turn k the first k bits are added.
 use mathlib.Core.Path.{◌≡◌, refl, ap}
 use mathlib.Core.Bool.{Bool}
 use Prim.Native.Nat.{ℕ, suc, ◌+◌, ◌*◌, ◌%◌, ◌^◌, ◌≤◌, ◌<◌}
@@ -11,8 +11,8 @@ use Rattle.ring.specs.Bytes.{number}
 use Rattle.ring.specs.Polynomials.{bit}
 use Rattle.ring.proofs.Binary.{number_lt}
 use Rattle.packing.specs.Packing.{in_row}
-use Rattle.packing.proofs.row.byte_at.Goals as goal
-use Rattle.packing.proofs.row.byte_at.Goals.{After-bit_at}
+use Rattle.packing.proofs.row.Row.byte.Goals as goal
+use Rattle.packing.proofs.row.Row.byte.Goals.{After-bit}
 
 -- one bit more, which is not lost
 more : (f : ℕ → Bool) (k byte b : ℕ) → k < 8 → byte ≡ number k f → b ≡ bit (f k)
@@ -29,26 +29,19 @@ pub loop-k-init : goal.loop-k-init
 unfolding number
 loop-k-init c = (omega arith, refl)
 
-turn : (c : After-bit_at) →
+turn : (c : After-bit) →
     let given = c.args in
     let was = c.loop-k in
-    let f : ℕ → Bool = λ e. bits given.to (in_row given.from given.count given.bytes.now) (given.j * 8 + e) in
-    (was.byte + c.bit_at.result * 2 ^ was.k % 256 ≡ number (was.k + 1) f) × (was.byte + c.bit_at.result * 2 ^ was.k % 256 < 256)
+    let f : ℕ → Bool = λ e. bits given.self.now.to (in_row given.self.now.from given.self.now.count given.self.now.bytes.now) (given.j * 8 + e) in
+    (was.byte + c.bit.result * 2 ^ was.k % 256 ≡ number (was.k + 1) f) × (was.byte + c.bit.result * 2 ^ was.k % 256 < 256)
 turn c =
     let given = c.args in
     let was = c.loop-k in
-    more (λ e. bits given.to (in_row given.from given.count given.bytes.now) (given.j * 8 + e)) was.k was.byte c.bit_at.result
-    (omega arith) was.invariant.1 c.bit_at.ensures
+    more (λ e. bits given.self.now.to (in_row given.self.now.from given.self.now.count given.self.now.bytes.now) (given.j * 8 + e)) was.k was.byte c.bit.result
+    (omega arith) was.invariant.1 c.bit.ensures
 
 pub overflow_add-byte : goal.overflow_add-byte
-overflow_add-byte c = omega (arith, (turn (goal.at.overflow_add-byte c).After-bit_at).1)
+overflow_add-byte c = omega (arith, (turn (goal.at.overflow_add-byte c).After-bit).1)
 
 pub loop-k-preserved : goal.loop-k-preserved
-loop-k-preserved c = (omega arith, (turn (goal.at.loop-k-preserved c).After-bit_at).0)
-
-pub returns : goal.returns
-returns c =
-    let all : c.loop-k.k ≡ 8 = omega arith in rw all at c.loop-k.invariant.1
-
-pub bit_at-requires : goal.bit_at-requires
-bit_at-requires c = c.requires.fact_1
+loop-k-preserved c = (omega arith, (turn (goal.at.loop-k-preserved c).After-bit).0)
