@@ -1,36 +1,34 @@
 -- The triple at the front of a window: with 16,384 bytes at hand, what comes later changes the number of an over-long
 -- record alone. Assumes nothing.
 use mathlib.Core.Path.{◌≡◌, sym, ap, ◌∙◌}
-use mathlib.Core.Bool.{true, false}
+use mathlib.Core.Bool.{true}
 use mathlib.Core.List.{List, [], ◌∷◌, ◌++◌}
 use Prim.Native.Nat.{ℕ, ◌+◌, ◌*◌, ◌≤◌}
 use native.Mathlib.Omega.{arith}
-use lib.Dec.{eqb}
+use Rattle.std.proofs.Common.{Result, Ok, Err}
 use lib.ListN.{length, take, drop, length-drop}
 use lib.Seq.{take-append-le, drop-append-le}
 use Rattle.ring.specs.Levels.{known, level_of, message_bytes, poly_bytes, private_bytes}
 use Rattle.ring.proofs.Bools.{both_true}
 use Rattle.ring.proofs.Levels.{sizes}
-use Rattle.exchange.specs.Records.{body_bytes, kind_of, known_kind}
-use Rattle.batch.specs.Report.{waited}
+use Rattle.exchange.specs.Records.{body_bytes, known_kind}
 use Rattle.batch.specs.Triples.{turns, triple, level_in, key_in, public_in, message_in, contents, judged}
-use Rattle.batch.specs.declared.contents.Judged.{Judged}
-use Rattle.batch.specs.declared.contents.Judged.TheVariants.{Stops}
-use Rattle.batch.specs.declared.records.Run.{Run}
-use Rattle.batch.specs.declared.records.Run.TheVariants.{Whole, Faulty}
-use Rattle.batch.specs.inner.Windows.{enough, most_record, missing, other_number, later}
+use Rattle.batch.specs.declared.contents.Gain.{Gain}
+use Rattle.batch.specs.declared.records.Fault.{Fault}
+use Rattle.batch.specs.declared.stop.Stop.{Stop}
+use Rattle.batch.specs.inner.Windows.{enough, most_record, stop_later, later}
 use Rattle.batch.proofs.Turns.{kind_stays, turns-later, came, first_of_lem, last_of}
 
 -- a triple by the run of its records
-unfoldable pub told : List ℕ → Run → Judged
-told bytes (Whole used) =
+unfoldable pub told : List ℕ → Result ℕ Fault → Result Gain Stop
+told bytes (Ok used) =
     let l = level_of (level_in bytes) in contents l (key_in l bytes) (public_in l bytes) (message_in l bytes) used
-told bytes (Faulty number from) = Stops number
+told bytes (Err fault) = Err fault.stop
 
-pub judged_by : (bytes : List ℕ) (run : Run) → turns triple (level_in bytes) bytes 0 ≡ run → judged bytes ≡ told bytes run
+pub judged_by : (bytes : List ℕ) (run : Result ℕ Fault) → turns triple (level_in bytes) bytes 0 ≡ run → judged bytes ≡ told bytes run
 unfolding judged told
-judged_by bytes (Whole used) is = rw (is, judged)
-judged_by bytes (Faulty number from) is = rw (is, judged)
+judged_by bytes (Ok used) is = rw (is, judged)
+judged_by bytes (Err fault) is = rw (is, judged)
 
 module _ (xs rest : List ℕ) (room : enough ≤ length xs) where
   part_stays : (n k : ℕ) → k + n ≤ length xs → take n (drop k (xs ++ rest)) ≡ take n (drop k xs)
@@ -43,7 +41,7 @@ module _ (xs rest : List ℕ) (room : enough ≤ length xs) where
   unfolding level_in
   level_stays = rw (kind_stays xs rest (omega (arith, room)))
 
-  whole_stays : (used : ℕ) → told (xs ++ rest) (Whole used) ≡ told xs (Whole used)
+  whole_stays : (used : ℕ) → told (xs ++ rest) (Ok used) ≡ told xs (Ok used)
   unfolding told key_in public_in message_in
   whole_stays used =
       let l = level_of (level_in xs) in
@@ -65,19 +63,18 @@ module _ (xs rest : List ℕ) (room : enough ≤ length xs) where
       rw level_stays (turns-later xs rest (level_in xs) triple 0 all)
 
   -- a whole triple stays as it is
-  pub judged_stays : (used : ℕ) → turns triple (level_in xs) xs 0 ≡ Whole used → judged (xs ++ rest) ≡ judged xs
+  pub judged_stays : (used : ℕ) → turns triple (level_in xs) xs 0 ≡ Ok used → judged (xs ++ rest) ≡ judged xs
   unfolding later
   judged_stays used is =
-      judged_by (xs ++ rest) (Whole used) (run_later ∙ ap (later xs rest) is)
+      judged_by (xs ++ rest) (Ok used) (run_later ∙ ap (later xs rest) is)
       ∙ whole_stays used
-      ∙ sym (judged_by xs (Whole used) is)
+      ∙ sym (judged_by xs (Ok used) is)
 
   -- and a fault too, but for a 7
-  pub judged-later : (number from : ℕ) → turns triple (level_in xs) xs 0 ≡ Faulty number from
-      → judged (xs ++ rest)
-      ≡ Stops (elim (eqb number 7) [ true ↦ waited (missing xs from) (other_number (kind_of (drop from xs))) rest | false ↦ number ])
+  pub judged-later : (fault : Fault) → turns triple (level_in xs) xs 0 ≡ Err fault
+      → judged (xs ++ rest) ≡ Err (stop_later xs fault.from rest fault.stop)
   unfolding later told
-  judged-later number from is =
+  judged-later fault is =
       judged_by (xs ++ rest) _ (run_later ∙ ap (later xs rest) is)
 
 -- the bytes of a whole triple
@@ -86,7 +83,7 @@ pub record WholeTriple (bytes : List ℕ) (used : ℕ) : Type 0 where
   pub size : used ≡ 18 + private_bytes (level_of (level_in bytes)) + poly_bytes (level_of (level_in bytes)) + message_bytes
   pub within : used ≤ length bytes
 
-pub whole_triple : (bytes : List ℕ) (used : ℕ) → turns triple (level_in bytes) bytes 0 ≡ Whole used → WholeTriple bytes used
+pub whole_triple : (bytes : List ℕ) (used : ℕ) → turns triple (level_in bytes) bytes 0 ≡ Ok used → WholeTriple bytes used
 unfolding triple level_in body_bytes known_kind
 whole_triple bytes used e =
     let level = level_in bytes in

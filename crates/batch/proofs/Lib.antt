@@ -4,5 +4,6 @@ pub mod Lines
 pub mod Reading
 pub mod Soundness
 pub mod Stepping
+pub mod Stops
 pub mod Sums
 pub mod Turns

@@ -15,9 +15,9 @@ stays : (totals : Totals) (going : Going) (bytes : List ℕ) → goes_on (over t
     → resume (over totals going) bytes ≡ over totals going
 unfolding goes_on resume
 stays totals On bytes off = absurd (true≢false off)
-stays totals (Waiting missing number) bytes off = absurd (true≢false off)
+stays totals (Waiting wait) bytes off = absurd (true≢false off)
 stays totals Ended bytes off = refl
-stays totals (Stopped number) bytes off = refl
+stays totals (Stopped stop) bytes off = refl
 
 read_resumes : {count to : Count} {held input : List ℕ} → Read count held input to → resume count (held ++ input) ≡ to
 read_resumes (stopped {count} held input off) = stays count.totals count.going (held ++ input) off

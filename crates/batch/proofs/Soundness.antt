@@ -1,10 +1,10 @@
 -- No total overflows: the totals at the start are sound, and a triple that is counted keeps them so. Assumes nothing.
 use mathlib.Core.Path.{◌≡◌}
-use mathlib.Core.Bool.{Bool, true, false}
 use mathlib.Core.List.{List}
 use Prim.Native.Nat.{ℕ, zero, suc, ◌+◌, ◌≤◌, ◌<◌}
 use native.Mathlib.Decide.{dec_lt, ℕ_discrete}
 use native.Mathlib.Omega.{arith}
+use Rattle.std.proofs.Common.{Option, Some, None}
 use lib.ListN.{length, get_or, set}
 use lib.Seq.{set_out, get_or-set_same, get_or-set_other}
 use Rattle.batch.specs.Promises.{Sound}
@@ -45,17 +45,16 @@ unfolding added
 added_sound totals gain sound few light =
     record {
       few = omega arith;
-      decoded_few = decoded gain.failed;
-      undecoded_few = undecoded gain.failed;
+      decoded_few = decoded gain.rounds;
+      undecoded_few = undecoded gain.rounds;
       replaced_few = omega (arith, sound.replaced_few, light.1);
     }
   where
-    decoded : (failed : Bool) (k : ℕ) →
-        let i = gain.rounds in
-        get_or (elim failed [ true ↦ totals.decoded | false ↦ set totals.decoded i (get_or totals.decoded i 0 + 1) ]) k 0 ≤ totals.triples + 1
-    decoded true k = omega (arith, sound.decoded_few k)
-    decoded false k = one_more totals.decoded totals.triples gain.rounds sound.decoded_few k
+    decoded : (rounds : Option ℕ) (k : ℕ)
+        → get_or (elim rounds [ Some i ↦ set totals.decoded i (get_or totals.decoded i 0 + 1) | None ↦ totals.decoded ]) k 0 ≤ totals.triples + 1
+    decoded None k = omega (arith, sound.decoded_few k)
+    decoded (Some i) k = one_more totals.decoded totals.triples i sound.decoded_few k
 
-    undecoded : (failed : Bool) → elim failed [ true ↦ totals.undecoded + 1 | false ↦ totals.undecoded ] ≤ totals.triples + 1
-    undecoded true = omega (arith, sound.undecoded_few)
-    undecoded false = omega (arith, sound.undecoded_few)
+    undecoded : (rounds : Option ℕ) → elim rounds [ Some i ↦ totals.undecoded | None ↦ totals.undecoded + 1 ] ≤ totals.triples + 1
+    undecoded None = omega (arith, sound.undecoded_few)
+    undecoded (Some i) = omega (arith, sound.undecoded_few)

@@ -7,14 +7,17 @@ use Prim.Native.Nat.{ℕ, ◌+◌, ◌-◌, ◌^◌, ◌≤◌, ◌<◌}
 use native.Mathlib.Decide.{dec_lt}
 use native.Mathlib.Omega.{arith}
 use borrow.Author.Tests.{lt-ltb}
+use Rattle.std.proofs.Common.{Result, Ok, Err}
 use lib.ListN.{length, drop, length-append, length-drop}
 use lib.Seq.{drop-length, drop-drop}
 use Rattle.batch.specs.Promises.{Sound, goes_on, to_go}
 use Rattle.batch.specs.Report.{most_triples, added, over, waited, resume}
 use Rattle.batch.specs.Triples.{judged}
 use Rattle.batch.specs.declared.contents.Gain.{Gain}
-use Rattle.batch.specs.declared.contents.Judged.{Judged}
-use Rattle.batch.specs.declared.contents.Judged.TheVariants.{Gains, Stops}
+use Rattle.hashing.specs.declared.refusal.Refusal.TheVariants.{CutRecord}
+use Rattle.batch.specs.declared.stop.Stop.{Stop}
+use Rattle.batch.specs.declared.stop.Stop.TheVariants.{Refused}
+use Rattle.batch.specs.declared.stop.Pending.{Pending}
 use Rattle.batch.specs.declared.steps.Step.{Step}
 use Rattle.batch.specs.declared.totals.Count.{Count}
 use Rattle.batch.specs.declared.totals.Going.TheVariants.{On, Waiting, Ended, Stopped}
@@ -51,12 +54,12 @@ module _ (totals : Totals) (bytes : List ℕ) (ended : Bool) (sound : Sound tota
       same rest all (inr none) (no many) = count_full totals (bytes ++ rest) (omega (arith, sound.few))
 
   module _ (some : 0 < length bytes) (few : totals.triples < most_triples) where
-    pub known_step : (now : Judged)
+    pub known_step : (now : Result Gain Stop)
         → ((rest : List ℕ) → (ended ≡ true → rest ≡ []) → judged (bytes ++ rest) ≡ now)
-        → ((gain : Gain) → now ≡ Gains gain → Small (length bytes) gain)
+        → ((gain : Gain) → now ≡ Ok gain → Small (length bytes) gain)
         → One (over totals On) bytes ended (by_judged totals now)
     unfolding by_judged added resume to_go
-    known_step (Gains gain) is small =
+    known_step (Ok gain) is small =
         let fits = small gain refl in
         record {
           goes =
@@ -67,76 +70,79 @@ module _ (totals : Totals) (bytes : List ℕ) (ended : Bool) (sound : Sound tota
               };
           nearer = λ on. omega (arith, few);
         }
-    known_step (Stops number) is small =
+    known_step (Err stop) is small =
         record {
           goes = record { same = same; within = omega arith; sound = sound };
           nearer = λ on. omega (arith, few);
         }
       where
         same : (rest : List ℕ) → (ended ≡ true → rest ≡ [])
-            → resume (over totals On) (bytes ++ rest) ≡ resume (over totals (Stopped number)) (bytes ++ rest)
-        same rest all = count_stops totals (bytes ++ rest) number (omega (arith, some, length-append bytes rest)) few (is rest all)
+            → resume (over totals On) (bytes ++ rest) ≡ resume (over totals (Stopped stop)) (bytes ++ rest)
+        same rest all = count_stops totals (bytes ++ rest) stop (omega (arith, some, length-append bytes rest)) few (is rest all)
 
-    pub waits_step : (missing number : ℕ) → missing < 2 ^ 64
-        → ((rest : List ℕ) → (ended ≡ true → rest ≡ []) → judged (bytes ++ rest) ≡ Stops (waited missing number rest))
-        → One (over totals On) bytes ended (step (over totals (Waiting missing number)) (length bytes))
+    pub waits_step : (wait : Pending) → wait.missing < 2 ^ 64
+        → ((rest : List ℕ) → (ended ≡ true → rest ≡ []) → judged (bytes ++ rest) ≡ Err (waited wait rest))
+        → One (over totals On) bytes ended (step (over totals (Waiting wait)) (length bytes))
     unfolding to_go
-    waits_step missing number fits is =
+    waits_step wait fits is =
         record {
           goes =
               record {
-                same = λ rest all. rw (drop-length bytes) (window_waits totals bytes rest some few missing number (is rest all));
+                same = λ rest all. rw (drop-length bytes) (window_waits totals bytes rest some few wait (is rest all));
                 within = omega arith;
                 sound = sound;
               };
           nearer = λ on. omega (arith, few, fits);
         }
 
-wait_none : (missing number : ℕ) → 0 < missing → waited missing number [] ≡ 7
+wait_none : (wait : Pending) → 0 < wait.missing → waited wait [] ≡ Refused CutRecord
 unfolding waited
-wait_none missing number more = rw (lt-ltb 0 missing more, waited)
+wait_none wait more = rw (lt-ltb 0 wait.missing more, waited)
 
 -- a count that waits
-module _ (totals : Totals) (missing number : ℕ) (bytes : List ℕ) (ended : Bool) (sound : Sound totals) where
-  pub come_step : missing ≤ length bytes
-      → One (over totals (Waiting missing number)) bytes ended (step (over totals (Stopped number)) (length bytes))
+module _ (totals : Totals) (wait : Pending) (bytes : List ℕ) (ended : Bool) (sound : Sound totals) where
+  abbrev pub left : Pending
+  left = record { missing = wait.missing - length bytes; stop = wait.stop }
+
+  pub come_step : wait.missing ≤ length bytes
+      → One (over totals (Waiting wait)) bytes ended (step (over totals (Stopped wait.stop)) (length bytes))
   unfolding resume to_go
   come_step come =
       record {
         goes =
             record {
-              same = λ rest all. ap (λ (n : ℕ). over totals (Stopped n)) (wait_over missing number bytes rest come);
+              same = λ rest all. ap (λ (stop : Stop). over totals (Stopped stop)) (wait_over wait bytes rest come);
               within = omega arith;
               sound = sound;
             };
         nearer = λ on. omega arith;
       }
 
-  pub cut_step : length bytes < missing → ended ≡ true
-      → One (over totals (Waiting missing number)) bytes ended (step (over totals (Stopped 7)) (length bytes))
+  pub cut_step : length bytes < wait.missing → ended ≡ true
+      → One (over totals (Waiting wait)) bytes ended (step (over totals (Stopped (Refused CutRecord))) (length bytes))
   unfolding resume to_go
   cut_step few last =
       record {
         goes =
             record {
-              same = λ rest all. ap (λ (n : ℕ). over totals (Stopped n)) (seven rest (all last));
+              same = λ rest all. ap (λ (stop : Stop). over totals (Stopped stop)) (cut rest (all last));
               within = omega arith;
               sound = sound;
             };
         nearer = λ on. omega arith;
       }
     where
-      seven : (rest : List ℕ) → rest ≡ [] → waited missing number (bytes ++ rest) ≡ 7
-      seven rest empty = wait_more missing number bytes rest few ∙ rw empty (wait_none (missing - length bytes) number (omega (arith, few)))
+      cut : (rest : List ℕ) → rest ≡ [] → waited wait (bytes ++ rest) ≡ Refused CutRecord
+      cut rest empty = wait_more wait bytes rest few ∙ rw empty (wait_none left (omega (arith, few)))
 
-  pub more_step : length bytes < missing → 0 < length bytes
-      → One (over totals (Waiting missing number)) bytes ended (step (over totals (Waiting (missing - length bytes) number)) (length bytes))
+  pub more_step : length bytes < wait.missing → 0 < length bytes
+      → One (over totals (Waiting wait)) bytes ended (step (over totals (Waiting left)) (length bytes))
   unfolding resume to_go
   more_step few some =
       record {
         goes =
             record {
-              same = λ rest all. rw (drop-length bytes) (ap (λ (n : ℕ). over totals (Stopped n)) (wait_more missing number bytes rest few));
+              same = λ rest all. rw (drop-length bytes) (ap (λ (stop : Stop). over totals (Stopped stop)) (wait_more wait bytes rest few));
               within = omega arith;
               sound = sound;
             };

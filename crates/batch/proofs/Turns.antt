@@ -6,6 +6,7 @@ use mathlib.Core.List.{List, [], ◌∷◌, ◌++◌}
 use Prim.Native.Nat.{ℕ, zero, suc, ◌+◌, ◌*◌, ◌-◌, ◌/◌, ◌%◌, ◌≤◌, ◌<◌}
 use native.Mathlib.Decide.{dec_lt}
 use native.Mathlib.Omega.{arith}
+use Rattle.std.proofs.Common.{Result, Ok, Err}
 use lib.Dec.{eqb, ltb, lit<}
 use lib.ListN.{length, get_or, drop, length-append, length-drop}
 use lib.Seq.{take-append-le, drop-append-le}
@@ -16,11 +17,14 @@ use Rattle.ring.specs.Levels.{level_of, message_bytes, seed_bytes, poly_bytes, c
 use Rattle.ring.proofs.Bools.{both_false}
 use Rattle.ring.proofs.Levels.{sizes}
 use Rattle.exchange.specs.Records.{body_of, kind_of, body_bytes, known_kind, record_reasons}
+use Rattle.hashing.specs.declared.refusal.Refusal.TheVariants.{CutRecord, UnknownKind, WrongBody}
 use Rattle.batch.specs.Report.{waited}
+use Rattle.batch.specs.Stops.{number, stop}
 use Rattle.batch.specs.Triples.{turn, turns}
-use Rattle.batch.specs.declared.records.Run.{Run}
-use Rattle.batch.specs.declared.records.Run.TheVariants.{Whole, Faulty}
-use Rattle.batch.specs.inner.Windows.{most_body, most_record, missing, other_number, later}
+use Rattle.batch.specs.declared.records.Fault.{Fault}
+use Rattle.batch.specs.declared.stop.Stop.{Stop}
+use Rattle.batch.specs.declared.stop.Stop.TheVariants.{OutOfTurn, Refused}
+use Rattle.batch.specs.inner.Windows.{most_body, most_record, missing, too_long, beyond, stop_later, later}
 
 pub ltb_same : (a b c d : ℕ) → (a < b → c < d) → (b ≤ a → d ≤ c) → ltb a b ≡ ltb c d
 ltb_same a b c d below above = go (ltb a b) refl
@@ -44,6 +48,11 @@ body_most level thing = go (thing - 1)
     go (suc (suc (suc (suc zero)))) = omega arith
     go (suc (suc (suc (suc (suc zero))))) = omega arith
     go (suc (suc (suc (suc (suc (suc i)))))) = omega arith
+
+-- the number of a record whose stated length no kind has
+abbrev told_later : ℕ → ℕ → List ℕ → ℕ
+told_later missing kind rest =
+    elim (ltb (length rest) missing) [ true ↦ 7 | false ↦ elim (known_kind kind) [ true ↦ 9 | false ↦ 8 ] ]
 
 -- a record whose head is at hand
 module _ (xs rest : List ℕ) (head : 6 ≤ length xs) where
@@ -77,8 +86,8 @@ module _ (xs rest : List ℕ) (head : 6 ≤ length xs) where
 
   -- and where a longer body is stated than any kind has, the rest tells it
   pub form_waits : length xs < 6 + body_of xs → most_body < body_of xs
-      → first_of (record_reasons (xs ++ rest)) ≡ waited (6 + body_of xs - length xs) (other_number (kind_of xs)) rest
-  unfolding record_reasons first_of waited other_number differs
+      → first_of (record_reasons (xs ++ rest)) ≡ told_later (6 + body_of xs - length xs) (kind_of xs) rest
+  unfolding record_reasons first_of differs
   form_waits cut long =
       let all = length-append xs rest in
       let head' : 6 ≤ length (xs ++ rest) = omega (arith, all, head) in
@@ -101,14 +110,14 @@ module _ (xs rest : List ℕ) (head : 6 ≤ length xs) where
       choice false false = refl
 
   -- a form that is told is not 7, and one that is cut is
-  pub whole_not_7 : 6 + body_of xs ≤ length xs → eqb (first_of (record_reasons xs)) 7 ≡ false
-  unfolding record_reasons first_of
+  pub whole_not_7 : 6 + body_of xs ≤ length xs → eqb (number (stop (first_of (record_reasons xs)))) 7 ≡ false
+  unfolding record_reasons first_of stop
   whole_not_7 whole =
       let body : body_of xs ≤ length xs - 6 = omega (arith, whole) in
       rw (le-ltb (length xs) 6 head, le-ltb (length xs - 6) (body_of xs) body)
       (other (not (known_kind (kind_of xs))) (differs (body_of xs) (body_bytes (level_of (kind_of xs / 256)) (kind_of xs % 256))))
     where
-      other : (u v : Bool) → eqb (elim u [ true ↦ 8 | false ↦ elim v [ true ↦ 9 | false ↦ 0 ] ]) 7 ≡ false
+      other : (u v : Bool) → eqb (number (stop (elim u [ true ↦ 8 | false ↦ elim v [ true ↦ 9 | false ↦ 0 ] ]))) 7 ≡ false
       other true v = refl
       other false true = refl
       other false false = refl
@@ -124,46 +133,45 @@ module _ (xs rest : List ℕ) (head : 6 ≤ length xs) where
 unfoldable pub out_of_turn : ℕ → ℕ → List ℕ → Bool
 out_of_turn thing level here = differs (kind_of here % 256) thing || differs (kind_of here / 256) level
 
-unfoldable pub picked : ℕ → ℕ → Bool → ℕ → Run
-picked at number out end =
-    elim (eqb number 0) [ true ↦ elim out [ true ↦ Faulty 0 at | false ↦ Whole end ] | false ↦ Faulty number at ]
+unfoldable pub picked : ℕ → Bool → ℕ → Result ℕ Stop
+picked n out end = elim (eqb n 0) [ true ↦ elim out [ true ↦ Err OutOfTurn | false ↦ Ok end ] | false ↦ Err (stop n) ]
 
 pub turn_is : (thing level : ℕ) (bytes : List ℕ) (at : ℕ) → at < length bytes
     → turn thing level bytes at
-    ≡ picked at (first_of (record_reasons (drop at bytes))) (out_of_turn thing level (drop at bytes)) (at + 6 + body_of (drop at bytes))
+    ≡ picked (first_of (record_reasons (drop at bytes))) (out_of_turn thing level (drop at bytes)) (at + 6 + body_of (drop at bytes))
 unfolding turn picked out_of_turn
 turn_is thing level bytes at more = rw (ne_eqb (length bytes) at (λ same. omega (arith, more, same)), turn)
 
-waited_not_0 : (missing kind : ℕ) (rest : List ℕ) → eqb (waited missing (other_number kind) rest) 0 ≡ false
-unfolding waited other_number
-waited_not_0 missing kind rest = go (ltb (length rest) missing) (known_kind kind)
-  where
-    go : (t u : Bool) → eqb (elim t [ true ↦ 7 | false ↦ elim u [ true ↦ 9 | false ↦ 8 ] ]) 0 ≡ false
-    go true u = refl
-    go false true = refl
-    go false false = refl
-
 module _ (xs rest : List ℕ) where
-  picked_stays : (at number end : ℕ) (out : Bool) → eqb number 7 ≡ false
-      → picked at number out end ≡ later xs rest (picked at number out end)
-  unfolding picked later
-  picked_stays at number end out told = go (eqb number 0) out
+  abbrev pub turn_later : ℕ → Result ℕ Stop → Result ℕ Stop
+  turn_later at (Ok end) = Ok end
+  turn_later at (Err s) = Err (stop_later xs at rest s)
+
+  picked_stays : (at n end : ℕ) (out : Bool) → eqb (number (stop n)) 7 ≡ false → picked n out end ≡ turn_later at (picked n out end)
+  unfolding picked stop_later
+  picked_stays at n end out told = go (eqb n 0) out
     where
       go : (z k : Bool) →
-          let run : Run = elim z [ true ↦ elim k [ true ↦ Faulty 0 at | false ↦ Whole end ] | false ↦ Faulty number at ] in
-          run ≡ later xs rest run
+          let run : Result ℕ Stop = elim z [ true ↦ elim k [ true ↦ Err OutOfTurn | false ↦ Ok end ] | false ↦ Err (stop n) ] in
+          run ≡ turn_later at run
       go true true = refl
       go true false = refl
-      go false k = rw told
+      go false k = rw (stop_later, told)
 
-  picked_waits : (at end : ℕ) (out : Bool) →
-      let number = waited (missing xs at) (other_number (kind_of (drop at xs))) rest in
-      picked at number out end ≡ later xs rest (picked at 7 out end)
-  unfolding picked later
-  picked_waits at end out = rw (waited_not_0 (missing xs at) (kind_of (drop at xs)) rest, picked)
+  picked_waits : (at end : ℕ) (out : Bool)
+      → picked (told_later (missing xs at) (kind_of (drop at xs)) rest) out end ≡ turn_later at (picked 7 out end)
+  unfolding picked stop_later waited beyond too_long stop
+  picked_waits at end out = go (ltb (length rest) (missing xs at)) (known_kind (kind_of (drop at xs)))
+    where
+      go : (t u : Bool)
+          → picked (elim t [ true ↦ 7 | false ↦ elim u [ true ↦ 9 | false ↦ 8 ] ]) out end
+          ≡ Err (elim t [ true ↦ Refused CutRecord | false ↦ elim u [ true ↦ Refused WrongBody | false ↦ Refused UnknownKind ] ])
+      go true u = refl
+      go false true = refl
+      go false false = refl
 
   pub turn-later : (thing level at : ℕ) → at + most_record ≤ length xs
-      → turn thing level (xs ++ rest) at ≡ later xs rest (turn thing level xs at)
+      → turn thing level (xs ++ rest) at ≡ turn_later at (turn thing level xs at)
   unfolding out_of_turn missing
   turn-later thing level at room =
       let here = drop at xs in
@@ -184,8 +192,8 @@ module _ (xs rest : List ℕ) where
       go : 6 ≤ length (drop at xs) → Dec (length (drop at xs) < 6 + body_of (drop at xs)) →
           let here = drop at xs in
           let out = differs (kind_of here % 256) thing || differs (kind_of here / 256) level in
-          picked at (first_of (record_reasons (here ++ rest))) out (at + 6 + body_of here)
-          ≡ later xs rest (picked at (first_of (record_reasons here)) out (at + 6 + body_of here))
+          picked (first_of (record_reasons (here ++ rest))) out (at + 6 + body_of here)
+          ≡ turn_later at (picked (first_of (record_reasons here)) out (at + 6 + body_of here))
       go head (yes cut) =
           let long : most_body < body_of (drop at xs) = omega (arith, cut, room, length-drop at xs) in
           rw (form_waits (drop at xs) rest head cut long, cut_is_7 (drop at xs) rest head cut) (picked_waits at _ _)
@@ -195,24 +203,23 @@ module _ (xs rest : List ℕ) where
 
 -- ---- what a record that came in its turn says
 
-is_whole : Run → Bool
-is_whole (Whole end) = true
-is_whole (Faulty number from) = false
+unfoldable pub is_whole : {E : Type 0} → Result ℕ E → Bool
+is_whole (Ok end) = true
+is_whole (Err e) = false
 
-end_of : Run → ℕ
-end_of (Whole end) = end
-end_of (Faulty number from) = from
+end_of : {E : Type 0} → Result ℕ E → ℕ
+end_of (Ok end) = end
+end_of (Err e) = 0
 
-picked_whole : (at number there end : ℕ) (out : Bool) → picked at number out there ≡ Whole end
-    → (number ≡ 0) × (out ≡ false) × (end ≡ there)
+picked_whole : (n there end : ℕ) (out : Bool) → picked n out there ≡ Ok end → (n ≡ 0) × (out ≡ false) × (end ≡ there)
 unfolding picked is_whole end_of
-picked_whole at number there end out = go (eqb number 0) refl out
+picked_whole n there end out = go (eqb n 0) refl out
   where
-    go : (z : Bool) → eqb number 0 ≡ z → (k : Bool)
-        → ◌≡◌ {A = Run} (elim z [ true ↦ elim k [ true ↦ Faulty 0 at | false ↦ Whole there ] | false ↦ Faulty number at ]) (Whole end)
-        → (number ≡ 0) × (k ≡ false) × (end ≡ there)
+    go : (z : Bool) → eqb n 0 ≡ z → (k : Bool)
+        → ◌≡◌ {A = Result ℕ Stop} (elim z [ true ↦ elim k [ true ↦ Err OutOfTurn | false ↦ Ok there ] | false ↦ Err (stop n) ]) (Ok end)
+        → (n ≡ 0) × (k ≡ false) × (end ≡ there)
     go true is true e = absurd (false≢true (ap is_whole e))
-    go true is false e = (eqb-true number 0 is, refl, sym (ap end_of e))
+    go true is false e = (eqb-true n 0 is, refl, sym (ap end_of e))
     go false is k e = absurd (false≢true (ap is_whole e))
 
 pub record Came (thing level : ℕ) (bytes : List ℕ) (at end : ℕ) : Type 0 where
@@ -249,13 +256,13 @@ module _ (thing level : ℕ) (bytes : List ℕ) (at end : ℕ) where
             );
       }
 
-  pub came : at ≤ length bytes → turn thing level bytes at ≡ Whole end → Came thing level bytes at end
+  pub came : at ≤ length bytes → turn thing level bytes at ≡ Ok end → Came thing level bytes at end
   unfolding turn is_whole
   came before e = go (dec_lt at (length bytes))
     where
       go : Dec (at < length bytes) → Came thing level bytes at end
       go (yes more) =
-          let is = picked_whole at _ _ end _ (sym (turn_is thing level bytes at more) ∙ e) in
+          let is = picked_whole _ _ end _ (sym (turn_is thing level bytes at more) ∙ e) in
           clear_came more is.0 is.1 is.2
       go (no none) =
           let same : length bytes ≡ at = omega arith in
@@ -272,33 +279,33 @@ module _ (xs rest : List ℕ) (level : ℕ) where
       let first : at + most_record ≤ length xs = omega (arith, room) in
       rw (turn-later xs rest thing level at first, turns) (go (turn thing level xs at) refl (turns-later things))
     where
-      go : (run : Run) → turn thing level xs at ≡ run
+      go : (run : Result ℕ Stop) → turn thing level xs at ≡ run
           → ((next : ℕ) → next + length things * most_record ≤ length xs → turns things level (xs ++ rest) next ≡ later xs rest (turns things level xs next))
-          → ◌≡◌ {A = Run}
-          (elim (later xs rest run) [ Whole next ↦ turns things level (xs ++ rest) next | Faulty number from ↦ Faulty number from ])
-          (later xs rest (elim run [ Whole next ↦ turns things level xs next | Faulty number from ↦ Faulty number from ]))
-      go (Whole next) e more =
+          → ◌≡◌ {A = Result ℕ Fault}
+          (elim (turn_later xs rest at run) [ Ok next ↦ turns things level (xs ++ rest) next | Err s ↦ Err (record { stop = s; from = at }) ])
+          (later xs rest (elim run [ Ok next ↦ turns things level xs next | Err s ↦ Err (record { stop = s; from = at }) ]))
+      go (Ok next) e more =
           let before : at ≤ length xs = omega (arith, room) in
           more next (omega (arith, room, (came thing level xs at next before e).ends, body_most level thing))
-      go (Faulty number from) e more = refl
+      go (Err s) e more = refl
 
 -- the first of them, and those after it
 pub record First (thing : ℕ) (things : List ℕ) (level : ℕ) (bytes : List ℕ) (at used : ℕ) : Type 0 where
   pub next : ℕ
-  pub here : turn thing level bytes at ≡ Whole next
-  pub after : turns things level bytes next ≡ Whole used
+  pub here : turn thing level bytes at ≡ Ok next
+  pub after : turns things level bytes next ≡ Ok used
 
 pub first_of_lem : (thing : ℕ) (things : List ℕ) (level : ℕ) (bytes : List ℕ) (at used : ℕ)
-    → turns (thing ∷ things) level bytes at ≡ Whole used → First thing things level bytes at used
+    → turns (thing ∷ things) level bytes at ≡ Ok used → First thing things level bytes at used
 unfolding turns is_whole
 first_of_lem thing things level bytes at used = go (turn thing level bytes at) refl
   where
-    go : (run : Run) → turn thing level bytes at ≡ run
-        → ◌≡◌ {A = Run} (elim run [ Whole next ↦ turns things level bytes next | Faulty number from ↦ Faulty number from ]) (Whole used)
+    go : (run : Result ℕ Stop) → turn thing level bytes at ≡ run
+        → ◌≡◌ {A = Result ℕ Fault} (elim run [ Ok next ↦ turns things level bytes next | Err s ↦ Err (record { stop = s; from = at }) ]) (Ok used)
         → First thing things level bytes at used
-    go (Whole next) is e = record { next = next; here = is; after = e }
-    go (Faulty number from) is e = absurd (false≢true (ap is_whole e))
+    go (Ok next) is e = record { next = next; here = is; after = e }
+    go (Err s) is e = absurd (false≢true (ap is_whole e))
 
-pub last_of : (level : ℕ) (bytes : List ℕ) (at used : ℕ) → turns [] level bytes at ≡ Whole used → at ≡ used
+pub last_of : (level : ℕ) (bytes : List ℕ) (at used : ℕ) → turns [] level bytes at ≡ Ok used → at ≡ used
 unfolding turns end_of
 last_of level bytes at used e = ap end_of e

@@ -16,16 +16,16 @@ pub record Sound (totals : Totals) : Type 0 where
 
 -- whether more bytes are asked for
 unfoldable pub goes_on : Count → Bool
-goes_on count = elim count.going [ On ↦ true | Waiting missing number ↦ true | Ended ↦ false | Stopped number ↦ false ]
+goes_on count = elim count.going [ On ↦ true | Waiting wait ↦ true | Ended ↦ false | Stopped stop ↦ false ]
 
 -- how far a count is from its end at most: the triples that it may still count, or the bytes that it waits for
 unfoldable pub to_go : Count → ℕ
 to_go count =
     elim count.going [
       | On ↦ 2 ^ 64 + 1 + most_triples - count.totals.triples
-      | Waiting missing number ↦ missing + 1
+      | Waiting wait ↦ wait.missing + 1
       | Ended ↦ 0
-      | Stopped number ↦ 0
+      | Stopped stop ↦ 0
     ]
 
 -- a turn over the first `have` bytes of a window, all that come if `ended`; `after` is the window then

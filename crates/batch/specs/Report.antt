@@ -1,7 +1,10 @@
 -- CR 8: the report of some bytes, and what a running count makes of those that still come. Assumes nothing.
-use Rattle.std.specs.Prelude.{true, false, List, [], ◌∷◌, ℕ, zero, suc, ◌+◌, ◌-◌, ◌^◌, eqb, ltb, length, get_or, drop, set}
+use Rattle.std.specs.Prelude.{true, false, List, [], ◌∷◌, ℕ, zero, suc, ◌+◌, ◌-◌, ◌^◌, eqb, ltb, length, get_or, drop, set, Ok, Err, Some, None}
+use Rattle.hashing.specs.declared.refusal.Refusal.TheVariants.{CutRecord}
 use Rattle.batch.specs.declared.contents.Gain.{Gain}
-use Rattle.batch.specs.declared.contents.Judged.TheVariants.{Gains, Stops}
+use Rattle.batch.specs.declared.stop.Stop.{Stop}
+use Rattle.batch.specs.declared.stop.Stop.TheVariants.{Refused}
+use Rattle.batch.specs.declared.stop.Pending.{Pending}
 use Rattle.batch.specs.declared.totals.Count.{Count}
 use Rattle.batch.specs.declared.totals.Going.{Going}
 use Rattle.batch.specs.declared.totals.Going.TheVariants.{On, Waiting, Ended, Stopped}
@@ -19,11 +22,10 @@ none = record { triples = 0; decoded = 0 ∷ 0 ∷ 0 ∷ 0 ∷ 0 ∷ 0 ∷ []; u
 -- sum over the triples
 unfoldable pub added : Totals → Gain → Totals
 added totals gain =
-    let k = gain.rounds in
     record {
       triples = totals.triples + 1;
-      decoded = elim gain.failed [ true ↦ totals.decoded | false ↦ set totals.decoded k (get_or totals.decoded k 0 + 1) ];
-      undecoded = elim gain.failed [ true ↦ totals.undecoded + 1 | false ↦ totals.undecoded ];
+      decoded = elim gain.rounds [ Some k ↦ set totals.decoded k (get_or totals.decoded k 0 + 1) | None ↦ totals.decoded ];
+      undecoded = elim gain.rounds [ Some k ↦ totals.undecoded | None ↦ totals.undecoded + 1 ];
       replaced = totals.replaced + gain.replaced;
     }
 
@@ -37,24 +39,25 @@ count_from (suc left) totals bytes =
     elim (eqb (length bytes) 0) [
       | true ↦ over totals Ended
       | false ↦ elim (judged bytes) [
-        | Gains gain ↦ count_from left (added totals gain) (drop gain.used bytes)
-        | Stops number ↦ over totals (Stopped number)
+        | Ok gain ↦ count_from left (added totals gain) (drop gain.used bytes)
+        | Err stop ↦ over totals (Stopped stop)
       ]
     ]
 
 unfoldable pub report : List ℕ → Count
 report bytes = count_from most_triples none bytes
 
--- where a record's stated length runs past what is at hand: 7 if fewer bytes come than are missing, else its other number
-unfoldable pub waited : ℕ → ℕ → List ℕ → ℕ
-waited missing number bytes = elim (ltb (length bytes) missing) [ true ↦ 7 | false ↦ number ]
+-- where a record's stated length runs past what is at hand: a cut record if fewer bytes come than are missing, else what
+-- stops it then
+unfoldable pub waited : Pending → List ℕ → Stop
+waited wait bytes = elim (ltb (length bytes) wait.missing) [ true ↦ Refused CutRecord | false ↦ wait.stop ]
 
 -- what a running count makes of the bytes that still come
 unfoldable pub resume : Count → List ℕ → Count
 resume count bytes =
     elim count.going [
       | On ↦ count_from (most_triples - count.totals.triples) count.totals bytes
-      | Waiting missing number ↦ over count.totals (Stopped (waited missing number bytes))
+      | Waiting wait ↦ over count.totals (Stopped (waited wait bytes))
       | Ended ↦ count
-      | Stopped number ↦ count
+      | Stopped stop ↦ count
     ]

@@ -1,5 +1,5 @@
 -- CR 8: records that come in turn, and what a triple of them adds to the totals. Assumes nothing.
-use Rattle.std.specs.Prelude.{true, false, ◌||◌, List, [], ◌∷◌, ℕ, ◌+◌, ◌/◌, ◌%◌, eqb, length, take, drop}
+use Rattle.std.specs.Prelude.{true, false, ◌||◌, List, [], ◌∷◌, ℕ, ◌+◌, ◌/◌, ◌%◌, eqb, length, take, drop, Result, Ok, Err, Some, None}
 use Rattle.hashing.specs.Answers.{differs, first_of}
 use Rattle.hashing.specs.Lists.{bits}
 use Rattle.ring.specs.Levels.{Level, level_of, message_bytes, poly_bytes, private_bytes}
@@ -11,33 +11,36 @@ use Rattle.exchange.specs.decoder.Decoder.{bgf, failed}
 use Rattle.exchange.specs.decoder.PrivateKey.{secret}
 use Rattle.exchange.specs.decoder.Stopping.{fewest}
 use Rattle.batch.specs.declared.contents.Gain.{Gain}
-use Rattle.batch.specs.declared.contents.Judged.{Judged}
-use Rattle.batch.specs.declared.contents.Judged.TheVariants.{Gains, Stops}
-use Rattle.batch.specs.declared.records.Run.{Run}
-use Rattle.batch.specs.declared.records.Run.TheVariants.{Whole, Faulty}
+use Rattle.batch.specs.declared.records.Fault.{Fault}
+use Rattle.batch.specs.declared.stop.Stop.{Stop}
+use Rattle.batch.specs.declared.stop.Stop.TheVariants.{OutOfTurn}
+use Rattle.batch.specs.Stops.{stop}
 
--- "form before turn", of the record from byte `at` on: where it ends, or its number and where it begins; "0 where only
--- records are missing, out of turn or of mixed levels"
-unfoldable pub turn : ℕ → ℕ → List ℕ → ℕ → Run
+-- "form before turn", of the record from byte `at` on: where it ends, or its number; "0 where only records are missing,
+-- out of turn or of mixed levels"
+unfoldable pub turn : ℕ → ℕ → List ℕ → ℕ → Result ℕ Stop
 turn thing level bytes at =
     let here = drop at bytes in
     let number = first_of (record_reasons here) in
     elim (eqb (length bytes) at) [
-      | true ↦ Faulty 0 at
+      | true ↦ Err OutOfTurn
       | false ↦ elim (eqb number 0) [
         | true ↦ elim (differs (kind_of here % 256) thing || differs (kind_of here / 256) level) [
-          | true ↦ Faulty 0 at
-          | false ↦ Whole (at + 6 + body_of here)
+          | true ↦ Err OutOfTurn
+          | false ↦ Ok (at + 6 + body_of here)
         ]
-        | false ↦ Faulty number at
+        | false ↦ Err (stop number)
       ]
     ]
 
 -- "Records are judged in file order": those that must come, by their things, the first fault ending it
-unfoldable pub turns : List ℕ → ℕ → List ℕ → ℕ → Run
-turns [] level bytes at = Whole at
+unfoldable pub turns : List ℕ → ℕ → List ℕ → ℕ → Result ℕ Fault
+turns [] level bytes at = Ok at
 turns (thing ∷ rest) level bytes at =
-    elim (turn thing level bytes at) [ Whole next ↦ turns rest level bytes next | Faulty number from ↦ Faulty number from ]
+    elim (turn thing level bytes at) [
+      | Ok next ↦ turns rest level bytes next
+      | Err stop ↦ Err (record { stop = stop; from = at })
+    ]
 
 -- "private key, public key, message; one level each"
 unfoldable pub triple : List ℕ
@@ -62,23 +65,22 @@ unfoldable pub gain : Level → List ℕ → List ℕ → List ℕ → ℕ → G
 gain l key public m used =
     let s = syndrome_of l key (wrapped l (key_digest public) (bits 8 public) m) in
     record {
-      failed = failed bgf l (secret l key) s;
-      rounds = fewest l (secret l key) s;
+      rounds = elim (failed bgf l (secret l key) s) [ true ↦ None | false ↦ Some (fewest l (secret l key) s) ];
       replaced = error_replaced l (bound (key_digest public) m);
       used = used;
     }
 
 -- "the contents of a whole triple come last, 3 before 4": it counts, or the number stops the run
-unfoldable pub contents : Level → List ℕ → List ℕ → List ℕ → ℕ → Judged
+unfoldable pub contents : Level → List ℕ → List ℕ → List ℕ → ℕ → Result Gain Stop
 contents l key public m used =
     let number = first_of (content_reasons l key public) in
-    elim (eqb number 0) [ true ↦ Gains (gain l key public m used) | false ↦ Stops number ]
+    elim (eqb number 0) [ true ↦ Ok (gain l key public m used) | false ↦ Err (stop number) ]
 
 -- the triple at the front of the bytes, of its first record's level
-unfoldable pub judged : List ℕ → Judged
+unfoldable pub judged : List ℕ → Result Gain Stop
 judged bytes =
     let l = level_of (level_in bytes) in
     elim (turns triple (level_in bytes) bytes 0) [
-      | Whole used ↦ contents l (key_in l bytes) (public_in l bytes) (message_in l bytes) used
-      | Faulty number from ↦ Stops number
+      | Ok used ↦ contents l (key_in l bytes) (public_in l bytes) (message_in l bytes) used
+      | Err fault ↦ Err fault.stop
     ]

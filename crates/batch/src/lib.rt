@@ -4,22 +4,26 @@
 pub mod contents;
 pub mod records;
 pub mod steps;
+pub mod stop;
 pub mod totals;
 pub mod triple;
 
-ghost use Rattle.std.specs.Prelude.{◌≡◌, ◌-◌, ◌≤◌, min, length, take, drop};
+ghost use Rattle.std.specs.Prelude.{◌≡◌};
 ghost use Rattle.batch.specs.Promises.{Sound, Turns};
 ghost use Rattle.batch.specs.Report;
 
 use steps::steps;
-use totals::{Count, Going, none, over};
+use totals::{Count, Going, Totals};
 
 // What it makes of all bytes is their report.
 pub fn start() -> Count
     ensures fact_1 { result ≡ Report.over Report.none Going.On }
     ensures fact_2 { Sound result.totals }
 {
-    over(none(), Going::On)
+    Count {
+        totals: Totals::default(),
+        going: Going::On,
+    }
 }
 
 // The count after a turn, and how many bytes stand at the front of the window for the next one.
@@ -29,39 +33,19 @@ pub struct Turned {
     pub have: usize,
 }
 
-// Moves the bytes from `at` to `end` to the front.
-fn to_front(window: &mut [u8], at: usize, end: usize)
-    requires fact_1 { at ≤ end }
-    requires fact_2 { end ≤ length window.old }
-    ensures { take (end - at) window.new ≡ drop at (take end window.old) }
-{
-    let mut i = 0;
-    while i < end - at {
-        window[i] = window[at + i];
-        i += 1;
-    }
-}
-
-fn least(a: usize, b: usize) -> usize
-    ensures { result ≡ min a b }
-{
-    if a < b { a } else { b }
-}
-
 // Counts the triples at the front of the first `have` bytes, and moves the rest to the front. `ended`: no more come.
-// A count is what `start` and the turns give: that it is sound is asked, as no constructor can be kept from a caller's
-// proof.
+// `have` stands beside the window, since what is read next goes behind the rest.
+// A count is what `start` and the turns give. That it is sound is asked, and no ghost field of Totals, since `added` of
+// specs/Report.antt adds to any totals.
 pub fn turn(count: Count, window: &mut [u8], have: usize, ended: bool) -> Turned
     requires { Sound count.totals }
     ensures { Turns count window.old have ended window.new result }
 {
-    let end = least(have, window.len());
+    let end = have.min(window.len());
     let done = steps(count, &window[..end], ended);
-    let reached = done.count;
-    let used = done.used;
-    to_front(window, used, end);
+    window.copy_within(done.used..end, 0);
     Turned {
-        count: reached,
-        have: end - used,
+        count: done.count,
+        have: end - done.used,
     }
 }

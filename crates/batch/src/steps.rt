@@ -1,14 +1,16 @@
 // One step of a count, over the bytes at hand: a triple, or the end, or some of the bytes that are waited for.
-ghost use Rattle.std.specs.Prelude.{◌≡◌, false, List, ℕ, ◌≤◌, ◌<◌, length};
+ghost use Rattle.std.specs.Prelude.{◌≡◌, List, ℕ, ◌<◌, length, Ok};
 ghost use Rattle.batch.specs.Promises.{Sound};
 ghost use Rattle.batch.specs.Report;
 ghost use Rattle.batch.specs.declared.contents.Gain.{Gain};
 ghost use Rattle.batch.specs.inner.Steps.{Light, One, Steps, by_judged};
-ghost use Rattle.batch.specs.inner.Windows.{enough};
+ghost use Rattle.batch.specs.inner.Windows.{Suffices};
 
-use crate::contents::Judged;
-use crate::totals::{Count, Going, Totals, added, goes_on, over};
+use crate::contents::Gain;
+use crate::stop::{Pending, Stop};
+use crate::totals::{Count, Going, Totals, added, goes_on};
 use crate::triple::{Look, look_at};
+use hashing::refusal::Refusal;
 
 // As many triples are counted at most.
 pub const MOST_TRIPLES: u64 = 4294967296;
@@ -23,19 +25,25 @@ pub struct Step {
     pub used: usize,
 }
 
-fn step_judged(totals: Totals, judged: Judged) -> Step
+fn step_judged(totals: Totals, judged: Result<Gain, Stop>) -> Step
     requires fact_1 { Sound totals }
     requires fact_2 { totals.triples < Report.most_triples }
-    requires fact_3 { ((gain : Gain) → judged ≡ Judged.Gains gain → Light gain) }
+    requires fact_3 { ((gain : Gain) → judged ≡ Ok gain → Light gain) }
     ensures { result ≡ by_judged totals judged }
 {
     match judged {
-        Judged::Gains(gain) => Step {
-            count: over(added(totals, gain), Going::On),
+        Ok(gain) => Step {
+            count: Count {
+                totals: added(totals, gain),
+                going: Going::On,
+            },
             used: gain.used,
         },
-        Judged::Stops(number) => Step {
-            count: over(totals, Going::Stopped(number)),
+        Err(stop) => Step {
+            count: Count {
+                totals,
+                going: Going::Stopped(stop),
+            },
             used: 0,
         },
     }
@@ -43,65 +51,64 @@ fn step_judged(totals: Totals, judged: Judged) -> Step
 
 fn step_on(totals: Totals, bytes: &[u8], ended: bool) -> Step
     requires fact_1 { Sound totals }
-    requires fact_2 { (ended ≡ false → enough ≤ length bytes.now) }
+    requires fact_2 { Suffices (length bytes.now) ended }
     ensures { One (Report.over totals Going.On) bytes.now ended result }
 {
-    if (totals.triples == MOST_TRIPLES) | (bytes.len() == 0) {
+    if totals.triples == MOST_TRIPLES || bytes.is_empty() {
         return Step {
-            count: over(totals, Going::Ended),
+            count: Count {
+                totals,
+                going: Going::Ended,
+            },
             used: 0,
         };
     }
     match look_at(bytes, ended) {
         Look::Known(judged) => step_judged(totals, judged),
-        Look::Waits(missing, number) => Step {
-            count: over(totals, Going::Waiting(missing, number)),
+        Look::Waits(wait) => Step {
+            count: Count {
+                totals,
+                going: Going::Waiting(wait),
+            },
             used: bytes.len(),
         },
     }
 }
 
-fn step_waiting(totals: Totals, missing: u64, number: u32, have: usize, ended: bool) -> Step
+fn step_waiting(totals: Totals, wait: Pending, have: usize, ended: bool) -> Step
     requires fact_1 { Sound totals }
-    requires fact_2 { (ended ≡ false → enough ≤ have) }
-    ensures { (bytes : List ℕ) → length bytes ≡ have → One (Report.over totals (Going.Waiting missing number)) bytes ended result }
+    requires fact_2 { Suffices have ended }
+    ensures { (bytes : List ℕ) → length bytes ≡ have → One (Report.over totals (Going.Waiting wait)) bytes ended result }
 {
-    if missing <= (have as u64) {
-        return Step {
-            count: over(totals, Going::Stopped(number)),
-            used: have,
-        };
-    }
-    if ended {
-        return Step {
-            count: over(totals, Going::Stopped(7)),
-            used: have,
-        };
-    }
+    let going = if wait.missing <= have as u64 {
+        Going::Stopped(wait.stop)
+    } else if ended {
+        Going::Stopped(Stop::Refused(Refusal::CutRecord))
+    } else {
+        Going::Waiting(Pending {
+            missing: wait.missing - have as u64,
+            stop: wait.stop,
+        })
+    };
     Step {
-        count: over(totals, Going::Waiting(missing - (have as u64), number)),
+        count: Count { totals, going },
         used: have,
     }
 }
 
 fn one(count: Count, bytes: &[u8], ended: bool) -> Step
     requires fact_1 { Sound count.totals }
-    requires fact_2 { (ended ≡ false → enough ≤ length bytes.now) }
+    requires fact_2 { Suffices (length bytes.now) ended }
     ensures { One count bytes.now ended result }
 {
-    let totals = count.totals;
-    let going = count.going;
-    match going {
-        Going::On => step_on(totals, bytes, ended),
-        Going::Waiting(missing, number) => {
-            step_waiting(totals, missing, number, bytes.len(), ended)
-        }
-        Going::Ended => Step { count, used: 0 },
-        Going::Stopped(_) => Step { count, used: 0 },
+    match count.going {
+        Going::On => step_on(count.totals, bytes, ended),
+        Going::Waiting(wait) => step_waiting(count.totals, wait, bytes.len(), ended),
+        Going::Ended | Going::Stopped(_) => Step { count, used: 0 },
     }
 }
 
-// Steps while the bytes at hand are enough, or all that come.
+// Steps while the bytes at hand are enough, or all that come. Each tells how many bytes it used: no `for` counts them.
 pub fn steps(count: Count, bytes: &[u8], ended: bool) -> Step
     requires { Sound count.totals }
     ensures { Steps count bytes.now ended result }

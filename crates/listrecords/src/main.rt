@@ -8,41 +8,30 @@ use lines::read_full;
 use std::io;
 use std::io::Write;
 
-fn print_head(out: &mut impl Write) -> io::Result<()> {
-    out.write_all(b"records\n")
-}
-
-fn print_field(out: &mut impl Write, n: u64) -> io::Result<()> {
-    write!(out, " {n}")
-}
-
 // Ordinal, answer, level, thing, body bytes.
 fn print_line(out: &mut impl Write, ordinal: u64, line: &Line) -> io::Result<()> {
-    write!(out, "{ordinal}")?;
-    print_field(out, line.answer as u64)?;
-    print_field(out, line.level as u64)?;
-    print_field(out, line.thing as u64)?;
-    print_field(out, line.body as u64)?;
-    out.write_all(b"\n")
-}
-
-fn print_end(out: &mut impl Write, lines: u64) -> io::Result<()> {
-    out.write_all(b"end")?;
-    print_field(out, lines)?;
-    out.write_all(b"\n")
+    match line.reading {
+        Ok(found) => {
+            let kind = found.kind;
+            let thing = kind.thing.number();
+            writeln!(out, "{ordinal} 0 {} {thing} {}", kind.level, found.body)
+        }
+        Err(refusal) => writeln!(out, "{ordinal} {} 0 0 0", refusal.number()),
+    }
 }
 
 fn list(out: &mut impl Write, bytes: &[u8]) -> io::Result<()> {
-    print_head(out)?;
+    writeln!(out, "records")?;
     let mut at = 0;
     let mut lines = 0;
+    // Where the next record begins is told by the line before it.
     while at < bytes.len() {
         let line = record::line_at(bytes, at);
         lines += 1;
         print_line(out, lines, &line)?;
         at = line.next;
     }
-    print_end(out, lines)
+    writeln!(out, "end {lines}")
 }
 
 fn main(rt: HostRuntime) -> io::Result<()> {

@@ -6,6 +6,7 @@ use mathlib.Core.List.{List, []}
 use Prim.Native.Nat.{ℕ, zero, suc, ◌+◌, ◌*◌, ◌≤◌, ◌<◌}
 use native.Mathlib.Omega.{arith}
 use borrow.Author.Tests.{eq-eqb}
+use Rattle.std.proofs.Common.{Result, Ok, Err, Some, None, IfSome}
 use lib.Dec.{eqb}
 use lib.ListN.{length, get_or, take}
 use lib.Seq.{take_at}
@@ -23,12 +24,17 @@ use Rattle.exchange.specs.Opening.{syndrome_of}
 use Rattle.exchange.specs.Promises.{WrapPromise, wrapping_reasons, wrap_says, content_reasons}
 use Rattle.exchange.specs.Sampler.{candidate, appended, replaced_below, replaced}
 use Rattle.exchange.specs.Scheme.{bound, bound_h, error_replaced, key_digest, wrapped}
+use Rattle.exchange.specs.decoder.Decoder.{bgf, failed}
 use Rattle.exchange.specs.decoder.PrivateKey.{good_key, secret}
+use Rattle.exchange.specs.decoder.Stopping.{fewest}
 use Rattle.exchange.proofs.Errors.{error_in0}
 use Rattle.exchange.proofs.decoder.Stopping.{fewest_is}
 use Rattle.batch.specs.Triples.{gain, contents}
-use Rattle.batch.specs.declared.contents.Judged.{Judged}
-use Rattle.batch.specs.declared.contents.Judged.TheVariants.{Gains, Stops}
+use Rattle.hashing.specs.declared.refusal.Refusal.TheVariants.{BadPosition}
+use Rattle.batch.specs.Stops.{stop}
+use Rattle.batch.specs.declared.contents.Gain.{Gain}
+use Rattle.batch.specs.declared.stop.Stop.{Stop}
+use Rattle.batch.specs.declared.stop.Stop.TheVariants.{Refused}
 
 -- ---- what wrapping answers and sends, by its promise
 
@@ -57,10 +63,10 @@ module _ (level : ℕ) (key h m : List ℕ) (used : ℕ)
       )
 
   -- by its two tests
-  told : Bool → Bool → Judged
+  told : Bool → Bool → Result Gain Stop
   told pad good =
       let number = elim pad as (λ _. ℕ) [ true ↦ 3 | false ↦ elim (not good) [ true ↦ 4 | false ↦ 0 ] ] in
-      elim (eqb number 0) [ true ↦ Gains (gain (level_of level) key h m used) | false ↦ Stops number ]
+      elim (eqb number 0) [ true ↦ Ok (gain (level_of level) key h m used) | false ↦ Err (stop number) ]
 
   contents_told : contents (level_of level) key h m used ≡ told (pad_set (level_of level).r h) (good_key (level_of level) key)
   unfolding contents content_reasons first_of told
@@ -70,14 +76,6 @@ module _ (level : ℕ) (key h m : List ℕ) (used : ℕ)
     padded : (t : Bool) → pad_set (level_of level).r h ≡ t → number ≡ elim t [ true ↦ 3 | false ↦ 0 ]
     padded t e = first ∙ wrapping_pad ∙ ap (λ (b : Bool). elim b as (λ _. ℕ) [ true ↦ 3 | false ↦ 0 ]) e
 
-    pub pad_stops : (number ≡ 0 → ⊥) → Stops number ≡ contents (level_of level) key h m used
-    unfolding told
-    pad_stops some = go (pad_set (level_of level).r h) refl
-      where
-        go : (t : Bool) → pad_set (level_of level).r h ≡ t → Stops number ≡ contents (level_of level) key h m used
-        go true e = ap Stops (padded true e) ∙ sym (contents_told ∙ ap (λ (pad : Bool). told pad (good_key (level_of level) key)) e)
-        go false e = absurd (some (padded false e))
-
     no_pad : number ≡ 0 → pad_set (level_of level).r h ≡ false
     no_pad none = go (pad_set (level_of level).r h) refl
       where
@@ -85,12 +83,23 @@ module _ (level : ℕ) (key h m : List ℕ) (used : ℕ)
         go true e = absurd (let three : ◌≡◌ {A = ℕ} number 3 = padded true e in omega (arith, three, none))
         go false e = refl
 
-    pub key_stops : number ≡ 0 → good_key (level_of level) key ≡ false → Stops 4 ≡ contents (level_of level) key h m used
+    pub pad_stops : (number ≡ 0 → ⊥) → Err (stop number) ≡ contents (level_of level) key h m used
     unfolding told
+    pad_stops some = go (pad_set (level_of level).r h) refl
+      where
+        go : (t : Bool) → pad_set (level_of level).r h ≡ t → Err (stop number) ≡ contents (level_of level) key h m used
+        go true e =
+            ap (λ (n : ℕ). Err (stop n)) (padded true e)
+            ∙ sym (contents_told ∙ ap (λ (pad : Bool). told pad (good_key (level_of level) key)) e)
+        go false e = absurd (some (padded false e))
+
+    pub key_stops : number ≡ 0 → good_key (level_of level) key ≡ false
+        → Err (Refused BadPosition) ≡ contents (level_of level) key h m used
+    unfolding told stop
     key_stops none bad = sym (contents_told ∙ ap₂ told (no_pad none) bad)
 
     pub good_gains : number ≡ 0 → good_key (level_of level) key ≡ true
-        → Gains (gain (level_of level) key h m used) ≡ contents (level_of level) key h m used
+        → Ok (gain (level_of level) key h m used) ≡ contents (level_of level) key h m used
     unfolding told
     good_gains none good = sym (contents_told ∙ ap₂ told (no_pad none) good)
 
@@ -119,9 +128,9 @@ replaced_most len words (suc i) list =
     go true few = omega arith
     go false few = omega arith
 
-unfoldable pub FewIn : ℕ → Judged → Type 0
-FewIn used (Gains gain) = (gain.used ≡ used) × (gain.rounds < 6) × (gain.replaced ≤ 264)
-FewIn used (Stops number) = Unit {0}
+unfoldable pub FewIn : ℕ → Result Gain Stop → Type 0
+FewIn used (Ok gain) = (gain.used ≡ used) × IfSome gain.rounds (λ k. k < 6) × (gain.replaced ≤ 264)
+FewIn used (Err stop) = Unit {0}
 
 pub contents_few : (level : ℕ) (key h m : List ℕ) (used : ℕ) → FewIn used (contents (level_of level) key h m used)
 unfolding contents gain error_replaced replaced FewIn
@@ -133,10 +142,14 @@ contents_few level key h m used = go (eqb (first_of (content_reasons (level_of l
     s : Poly
     s = syndrome_of l key (wrapped l (key_digest h) (bits 8 h) m)
 
-    go : (t : Bool) → FewIn used (elim t [ true ↦ Gains (gain l key h m used) | false ↦ Stops (first_of (content_reasons l key h)) ])
+    within : (t : Bool) → IfSome (elim t [ true ↦ None | false ↦ Some (fewest l (secret l key) s) ]) (λ k. k < 6)
+    within true = tt
+    within false = omega (arith, (fewest_is l (r_pos level) (facts level).bounds.least (secret l key) s).within)
+
+    go : (t : Bool) → FewIn used (elim t [ true ↦ Ok (gain l key h m used) | false ↦ Err (stop (first_of (content_reasons l key h))) ])
     go true = (
       refl,
-      omega (arith, (fewest_is l (r_pos level) (facts level).bounds.least (secret l key) s).within),
+      within (failed bgf l (secret l key) s),
       omega (arith, replaced_most (2 * l.r) (numbers 4 l.t (shake256 (bound (key_digest h) m) (4 * l.t))) l.t [], (sizes level).t_most),
     )
     go false = tt

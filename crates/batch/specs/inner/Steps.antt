@@ -1,11 +1,10 @@
 -- One step of a count, and several. No public promise cites this file. Assumes nothing.
-use Rattle.std.specs.Prelude.{◌≡◌, Bool, true, false, List, [], ◌++◌, ℕ, ◌≤◌, ◌<◌, ◌-◌, length, drop}
+use Rattle.std.specs.Prelude.{◌≡◌, Bool, true, false, List, [], ◌++◌, ℕ, ◌≤◌, ◌<◌, ◌-◌, length, drop, Result, Ok, Err, IfSome}
 use Rattle.batch.specs.Promises.{Sound, goes_on, to_go}
 use Rattle.batch.specs.Report.{added, over, resume}
 use Rattle.batch.specs.declared.contents.Gain.{Gain}
-use Rattle.batch.specs.declared.contents.Judged.{Judged}
-use Rattle.batch.specs.declared.contents.Judged.TheVariants.{Gains, Stops}
 use Rattle.batch.specs.declared.steps.Step.{Step}
+use Rattle.batch.specs.declared.stop.Stop.{Stop}
 use Rattle.batch.specs.declared.totals.Count.{Count}
 use Rattle.batch.specs.declared.totals.Going.TheVariants.{On, Stopped}
 use Rattle.batch.specs.declared.totals.Totals.{Totals}
@@ -13,11 +12,11 @@ use Rattle.batch.specs.inner.Windows.{enough}
 
 -- too small to overflow a total
 abbrev pub Light : Gain → Type 0
-Light gain = (gain.rounds < 6) × (gain.replaced ≤ 264)
+Light gain = IfSome gain.rounds (λ k. k < 6) × (gain.replaced ≤ 264)
 
-unfoldable pub by_judged : Totals → Judged → Step
-by_judged totals (Gains gain) = record { count = over (added totals gain) On; used = gain.used }
-by_judged totals (Stops number) = record { count = over totals (Stopped number); used = 0 }
+unfoldable pub by_judged : Totals → Result Gain Stop → Step
+by_judged totals (Ok gain) = record { count = over (added totals gain) On; used = gain.used }
+by_judged totals (Err stop) = record { count = over totals (Stopped stop); used = 0 }
 
 -- a step over bytes that are all that come if `ended`: whatever comes, the count comes to the same
 pub record Goes (count : Count) (bytes : List ℕ) (ended : Bool) (to : Step) : Type 0 where

@@ -5,13 +5,13 @@ use Rattle.batch.proofs.steps.step_judged.Goals as goal
 pub added-requires : goal.added-requires
 added-requires c =
     let asked = c.requires in
-    record { fact_1 = asked.fact_1; fact_2 = asked.fact_2; fact_3 = asked.fact_3 c.in-Gains.gain c.in-Gains.is }
+    record { fact_1 = asked.fact_1; fact_2 = asked.fact_2; fact_3 = asked.fact_3 c.in-Ok.gain c.in-Ok.is }
 
-pub returns-in-Gains : goal.returns-in-Gains
+pub returns-in-Ok : goal.returns-in-Ok
 unfolding by_judged
-returns-in-Gains c =
-    rw (c.over.ensures, c.added.ensures, c.in-Gains.is, by_judged)
+returns-in-Ok c =
+    rw (c.added.ensures, c.in-Ok.is, by_judged)
 
-pub returns-in-Stops : goal.returns-in-Stops
+pub returns-in-Err : goal.returns-in-Err
 unfolding by_judged
-returns-in-Stops c = rw (c.over-in-Stops.ensures, c.in-Stops.is, by_judged)
+returns-in-Err c = rw (c.in-Err.is, by_judged)

@@ -1,16 +1,11 @@
 -- `added` adds a gain: no sum overflows, as the totals are sound.
-use native.Mathlib.Omega.{arith}
 use Rattle.batch.specs.Report.{added}
 use Rattle.batch.proofs.totals.added.Goals as goal
 
-pub returns-then-gain : goal.returns-then-gain
+pub returns-in-Some : goal.returns-in-Some
 unfolding added
-returns-then-gain c = rw (c.if-gain.true, added)
+returns-in-Some c = rw (c.in-Some.is, added)
 
-pub overflow_add-decoded : goal.overflow_add-decoded
-overflow_add-decoded c =
-    omega (arith, c.requires.fact_1.decoded_few c.args.gain.rounds)
-
-pub returns : goal.returns
+pub returns-in-None : goal.returns-in-None
 unfolding added
-returns c = rw (c.if-gain.false, added)
+returns-in-None c = rw (c.in-None.is, added)

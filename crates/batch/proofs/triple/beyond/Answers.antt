@@ -1,12 +1,11 @@
 -- `beyond` counts the bytes that are missing of a record, and asks its kind.
-use mathlib.Core.Path.{◌≡◌, ap, ap₂, ◌∙◌}
+use mathlib.Core.Path.{◌≡◌, ap, ◌∙◌}
 use Prim.Native.Nat.{ℕ, ◌+◌, ◌-◌}
 use native.Mathlib.Omega.{arith}
-use lib.ListN.{length, drop, length-drop}
+use lib.ListN.{length, take, drop, length-drop}
 use Rattle.exchange.specs.Records.{body_of, kind_of}
 use Rattle.exchange.proofs.Parts.{rest_all}
-use Rattle.batch.specs.inner.Windows.{missing, other_number}
-use Rattle.batch.specs.declared.triple.Look.TheVariants.{Waits}
+use Rattle.batch.specs.inner.Windows.{missing, too_long, beyond}
 use Rattle.batch.proofs.triple.beyond.Goals as goal
 use Rattle.batch.proofs.triple.beyond.Goals.{After-four, After-two}
 
@@ -28,8 +27,10 @@ overflow_sub-result c =
     (omega (arith, c.requires.1, body_is (goal.at.overflow_sub-result c).After-four, length-drop given.at given.bytes.now))
 
 pub returns : goal.returns
-unfolding missing
+unfolding beyond missing
 returns c =
     let given = c.args in
-    ap₂ Waits (rw (rest_all given.at given.bytes.now) (ap (λ (n : ℕ). 6 + n - length (drop given.at given.bytes.now)) (body_is (goal.at.returns c).After-four)))
-    (c.other_number-number.ensures ∙ ap other_number (kind_is (goal.at.returns c).After-two))
+    let left : 6 + c.four.result - length (take (length given.bytes.now - given.at) (drop given.at given.bytes.now)) ≡ missing given.bytes.now given.at =
+    rw (rest_all given.at given.bytes.now) (ap (λ (n : ℕ). 6 + n - length (drop given.at given.bytes.now)) (body_is (goal.at.returns c).After-four)) in
+    let stops = c.too_long.ensures ∙ ap too_long (kind_is (goal.at.returns c).After-two) in
+    λ i. record { missing = left i; stop = stops i }
