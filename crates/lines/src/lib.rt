@@ -1,131 +1,63 @@
 // What the programs read and print: numbers of four bytes, and lines that are put together and written in one call.
 //
-// A line under way is a text and how much of its front is used. Where the next part does not fit, what is there is
-// written first. Each function is given the reader or the writer, and hands on its error.
+// Each function is given the reader or the writer, and hands on its error. What is printed has no contract, `Line` and
+// `put_hex`: the programs' lines are run and compared, and no proof speaks of them.
 #![tactic(auto)]
 
-ghost use Rattle.std.specs.Prelude.{◌≡◌, true, ◌<◌, ◌≤◌, ◌+◌, ◌*◌, length, take, IfOk};
+ghost use Rattle.std.specs.Prelude.{◌≡◌, ◌<◌, ◌≤◌, [], ◌∷◌, length, take, IfOk, IfErr, IfSome, IfNone};
+ghost use Rattle.std.specs.Int.{w32, to_le_bytes};
 ghost use Rattle.std.specs.Io.KnownBytes.{Consumes, IsAtEnd};
+ghost use Rattle.lines.specs.declared.Fault.TheVariants.{Bad, Io};
 
-use itoa::Buffer;
+use arrayvec::ArrayVec;
 use std::io;
 use std::io::{Read, Write};
 
-// How many bytes go into one call of `write` in hex where they do not fit into the line: all of a case's buffer.
-const MOST: usize = 32768;
+// How long a line may be for one call. In hex, two outputs of 16,384 bytes fill it.
+const ROOM: usize = 65536;
 
-fn digit(n: u8) -> u8
-    requires { n < 16 }
-{
-    if n < 10 { b'0' + n } else { b'a' - 10 + n }
+// A writer, and in front of it the line under way, in fixed memory, which `flush` writes in one call. Where the next
+// part does not fit, what is there is written first.
+#[derive(Drop)]
+pub struct Line<W: Write + Drop> {
+    out: W,
+    text: ArrayVec<u8, ROOM>,
 }
 
-// Lays n bytes from `from` on out in hex, from `at` on in the text.
-fn lay(bytes: &[u8], from: usize, n: usize, text: &mut [u8], at: usize)
-    requires bytes_in_bounds { from + n ≤ length bytes.now }
-    requires text_in_bounds { at + n * 2 ≤ length text.old }
-{
-    for i in 0..n {
-        let byte = bytes[from + i];
-        text[at + i * 2] = digit(byte / 16);
-        text[at + i * 2 + 1] = digit(byte % 16);
+impl<W: Write + Drop> Line<W> {
+    pub fn new(out: W) -> Self {
+        Line {
+            out,
+            text: ArrayVec::new(),
+        }
     }
 }
 
-// How many of the bytes that are left go into the next call.
-fn part(left: usize) -> usize
-    requires { 0 < left }
-    ensures { (0 < result) × (result ≤ left) × (result ≤ 32768) }
-{
-    if left < MOST { left } else { MOST }
+impl<W: Write + Drop> Write for Line<W> {
+    fn write(&mut self, bytes: &[u8]) -> io::Result<usize> {
+        if self.text.try_extend_from_slice(bytes).is_ok() {
+            return Ok(bytes.len());
+        }
+        self.flush()?;
+        self.out.write(bytes)
+    }
+
+    fn flush(&mut self) -> io::Result<()> {
+        self.out.write_all(self.text.as_slice())?;
+        self.text.clear();
+        Ok(())
+    }
 }
 
-fn print_hex(out: &mut impl Write, bytes: &[u8]) -> io::Result<()> {
-    let mut text = [0u8; 65536];
-    let mut i = 0;
-    while i < bytes.len() {
-        let n = part(bytes.len() - i);
-        lay(bytes, i, n, &mut text, 0);
-        out.write_all(&text[..n * 2])?;
-        i += n;
+pub fn put_hex(out: &mut impl Write, bytes: &[u8]) -> io::Result<()> {
+    for byte in bytes {
+        write!(out, "{byte:02x}")?;
     }
     Ok(())
 }
 
-fn copy(bytes: &[u8], text: &mut [u8], at: usize)
-    requires { at + length bytes.now ≤ length text.old }
-{
-    for (i, byte) in bytes.iter().enumerate() {
-        text[at + i] = *byte;
-    }
-}
-
-// Whether n more bytes fit behind those that are used.
-fn has_room(room: usize, used: usize, n: usize) -> bool
-    ensures { result ≡ true → used + n ≤ room }
-{
-    if room < used {
-        return false;
-    }
-    n <= room - used
-}
-
-// The same of n bytes in hex.
-fn hex_room(room: usize, used: usize, n: usize) -> bool
-    ensures { result ≡ true → used + n * 2 ≤ room }
-{
-    if MOST < n {
-        return false;
-    }
-    has_room(room, used, n * 2)
-}
-
-// Each of these gives how much of the text is used afterwards.
-pub fn put(out: &mut impl Write, text: &mut [u8], used: usize, bytes: &[u8]) -> io::Result<usize> {
-    if has_room(text.len(), used, bytes.len()) {
-        copy(bytes, text, used);
-        return Ok(used + bytes.len());
-    }
-    write(out, text, used)?;
-    out.write_all(bytes)?;
-    Ok(0)
-}
-
-pub fn put_hex(
-    out: &mut impl Write,
-    text: &mut [u8],
-    used: usize,
-    bytes: &[u8],
-) -> io::Result<usize> {
-    if hex_room(text.len(), used, bytes.len()) {
-        lay(bytes, 0, bytes.len(), text, used);
-        return Ok(used + bytes.len() * 2);
-    }
-    write(out, text, used)?;
-    print_hex(out, bytes)?;
-    Ok(0)
-}
-
-pub fn put_decimal(
-    out: &mut impl Write,
-    text: &mut [u8],
-    used: usize,
-    n: u64,
-) -> io::Result<usize> {
-    let mut digits = Buffer::new();
-    put(out, text, used, digits.format(n).as_bytes())
-}
-
-// The line, in one call. False where the text has not so much.
-pub fn write(out: &mut impl Write, text: &[u8], used: usize) -> io::Result<bool> {
-    if text.len() < used {
-        return Ok(false);
-    }
-    out.write_all(&text[..used])?;
-    Ok(true)
-}
-
-// Reads until the bytes are full or the input ends, and gives how many it put at their front.
+// Reads until the bytes are full or the input ends, and gives how many it put at their front: std's `read_exact` does
+// not tell how many there were.
 pub fn read_full<R: Read>(input: &mut R, bytes: &mut [u8]) -> io::Result<usize>
     ensures within { IfOk result (λ n. n ≤ length bytes.new) }
     ensures consumed { IfOk result (λ n. Consumes (R.remaining input.old) (R.remaining input.new) (take n bytes.new)) }
@@ -142,22 +74,56 @@ pub fn read_full<R: Read>(input: &mut R, bytes: &mut [u8]) -> io::Result<usize>
     Ok(done)
 }
 
-// A number of four bytes, little-endian.
-fn value(a: u8, b: u8, c: u8, d: u8) -> u32 {
-    a as u32 + 256 * (b as u32) + 65536 * (c as u32) + 16777216 * (d as u32)
+// The next N bytes; none where the input ends before them.
+fn read_array<const N: usize, R: Read>(input: &mut R) -> io::Result<Option<[u8; N]>>
+    ensures consumed { IfOk result (λ all. IfSome all (Consumes (R.remaining input.old) (R.remaining input.new))) }
+    ensures cut { IfOk result (λ all. IfNone all (IfSome (R.remaining input.old) (λ left. length left < N))) }
+{
+    let mut bytes = [0; N];
+    let n = read_full(input, &mut bytes)?;
+    Ok((n == N).then_some(bytes))
 }
 
-// What reading a number finds.
-#[derive(Clone, Copy)]
-pub enum Number {
-    Is(u32),
-    Cut,
+pub fn read_byte<R: Read>(input: &mut R) -> io::Result<Option<u8>>
+    ensures consumed { IfOk result (λ next. IfSome next (λ byte.
+        Consumes (R.remaining input.old) (R.remaining input.new) (byte ∷ []))) }
+    ensures end { IfOk result (λ next. IfNone next (IsAtEnd (R.remaining input.old))) }
+{
+    Ok(read_array(input)?.map(u8::from_le_bytes))
 }
 
-pub fn read_number(input: &mut impl Read) -> io::Result<Number> {
-    let mut four = [0u8; 4];
-    if read_full(input, &mut four)? < 4 {
-        return Ok(Number::Cut);
+// Why a part of the input gets no line: it is cut or wrong, or the system cannot read or write.
+#[derive(Drop)]
+pub enum Fault {
+    Bad,
+    Io(io::Error),
+}
+
+impl From<io::Error> for Fault {
+    ghost from_gives = { λ error fault. fault ≡ Io error };
+
+    fn from(error: io::Error) -> Fault {
+        Fault::Io(error)
     }
-    Ok(Number::Is(value(four[0], four[1], four[2], four[3])))
+}
+
+// A number of four bytes, little-endian.
+pub fn read_number<R: Read>(input: &mut R) -> Result<u32, Fault>
+    ensures consumed { IfOk result (λ n. Consumes (R.remaining input.old) (R.remaining input.new) (to_le_bytes w32 n)) }
+    ensures cut { IfErr result (λ fault. fault ≡ Bad → IfSome (R.remaining input.old) (λ left. length left < 4)) }
+{
+    let four = read_array(input)?;
+    four.map(u32::from_le_bytes).ok_or(Fault::Bad)
+}
+
+// As many bytes as the buffer has.
+pub fn read_all<R: Read>(input: &mut R, bytes: &mut [u8]) -> Result<(), Fault>
+    ensures consumed { IfOk result (λ done. Consumes (R.remaining input.old) (R.remaining input.new) bytes.new) }
+    ensures cut { IfErr result (λ fault. fault ≡ Bad
+        → IfSome (R.remaining input.old) (λ left. length left < length bytes.new)) }
+{
+    if read_full(input, bytes)? < bytes.len() {
+        return Err(Fault::Bad);
+    }
+    Ok(())
 }

@@ -6,154 +6,99 @@
 // Anything else, or a vector that the input cuts short, ends the run with the line "bad vector".
 #![tactic(auto)]
 
-use lines::{Number, read_full, read_number};
+use lines::{Fault, Line, put_hex, read_all, read_byte, read_number};
 use std::io;
 use std::io::{Read, Write};
 
 // A vector's function, and the lengths of the key and the customization that stand before its message.
-#[derive(Drop)]
-struct Kind {
-    function: u8,
-    key: usize,
-    custom: usize,
+#[derive(Clone, Copy)]
+enum Function {
+    Shake256,
+    Sha3_384,
+    Kmac256 { key: usize, custom: usize },
+}
+
+impl Function {
+    // The function of a number. Its own lengths follow the two that every vector has.
+    fn read(input: &mut impl Read, number: u8) -> Result<Function, Fault> {
+        match number {
+            1 => Ok(Function::Shake256),
+            2 => Ok(Function::Sha3_384),
+            3 => Ok(Function::Kmac256 {
+                key: read_number(input)? as usize,
+                custom: read_number(input)? as usize,
+            }),
+            _ => Err(Fault::Bad),
+        }
+    }
+
+    // How many bytes stand before the message.
+    fn before(self) -> usize {
+        match self {
+            Function::Kmac256 { key, custom } => key.saturating_add(custom),
+            _ => 0,
+        }
+    }
 }
 
 // KMAC256 is there for lengths below 8,192 bytes.
-fn keyed(key: usize, custom: usize, all: &[u8], digest: &mut [u8]) -> bool {
-    if key >= 8192 {
-        return false;
+fn keyed(key: usize, custom: usize, all: &[u8], digest: &mut [u8]) -> Option<()> {
+    if key >= 8192 || custom >= 8192 || digest.len() >= 8192 {
+        return None;
     }
-    if custom >= 8192 {
-        return false;
-    }
-    if digest.len() >= 8192 {
-        return false;
-    }
-    let from = key + custom;
-    if all.len() < from {
-        return false;
-    }
-    hashing::kmac::kmac256(&all[..key], &all[from..], &all[key..from], digest);
-    true
+    let (key, rest) = all.split_at_checked(key)?;
+    let (custom, message) = rest.split_at_checked(custom)?;
+    hashing::kmac::kmac256(key, message, custom, digest);
+    Some(())
 }
 
-// The digest of a vector's bytes, at the digest's length. False where there is no such function, or
-// it refuses a length.
-fn hash(kind: Kind, all: &[u8], digest: &mut [u8]) -> bool {
-    let function = kind.function;
+// The digest of a vector's bytes, at the digest's length; none where the function refuses a length.
+fn hash(function: Function, all: &[u8], digest: &mut [u8]) -> Option<()> {
     match function {
-        1 => hashing::shake256(all, digest) == 0,
-        2 => hashing::sha3_384(all, digest) == 0,
-        3 => keyed(kind.key, kind.custom, all, digest),
-        _ => false,
+        Function::Shake256 => {
+            hashing::shake256(all, digest);
+            Some(())
+        }
+        Function::Sha3_384 => hashing::sha3_384(all, digest).ok(),
+        Function::Kmac256 { key, custom } => keyed(key, custom, all, digest),
     }
 }
 
 // Reads what fills the first buffer, and writes its digest, which fills the other.
-fn answer(
-    input: &mut impl Read,
-    out: &mut impl Write,
-    kind: Kind,
-    all: &mut [u8],
-    digest: &mut [u8],
-) -> io::Result<bool> {
-    if read_full(input, all)? < all.len() {
-        return Ok(false);
-    }
-    if !hash(kind, all, digest) {
-        return Ok(false);
-    }
-    let mut text = [0u8; 4096];
-    let shown = lines::put_hex(out, &mut text, 0, digest)?;
-    let whole = lines::put(out, &mut text, shown, b"\n")?;
-    lines::write(out, &text, whole)
-}
-
-fn vector(
-    input: &mut impl Read,
-    out: &mut impl Write,
-    kind: Kind,
-    size: usize,
-    room: usize,
-) -> io::Result<bool> {
-    let mut all = [0u8; 65536];
-    let mut digest = [0u8; 4096];
-    if all.len() < size {
-        return Ok(false);
-    }
-    if digest.len() < room {
-        return Ok(false);
-    }
-    answer(input, out, kind, &mut all[..size], &mut digest[..room])
-}
-
-// KMAC256's two further lengths, and what follows.
-fn keyed_rest(
-    input: &mut impl Read,
-    out: &mut impl Write,
-    size: u32,
-    room: u32,
-) -> io::Result<bool> {
-    let Number::Is(key) = read_number(input)? else {
-        return Ok(false);
-    };
-    let Number::Is(custom) = read_number(input)? else {
-        return Ok(false);
-    };
-    let kind = Kind {
-        function: 3,
-        key: key as usize,
-        custom: custom as usize,
-    };
-    vector(
-        input,
-        out,
-        kind,
-        key as usize + custom as usize + size as usize,
-        room as usize,
-    )
-}
-
-// The lengths of a vector, and what follows.
-fn rest(input: &mut impl Read, out: &mut impl Write, function: u8) -> io::Result<bool> {
-    let Number::Is(size) = read_number(input)? else {
-        return Ok(false);
-    };
-    let Number::Is(room) = read_number(input)? else {
-        return Ok(false);
-    };
-    if function == 3 {
-        return keyed_rest(input, out, size, room);
-    }
-    let kind = Kind {
-        function,
-        key: 0,
-        custom: 0,
-    };
-    vector(input, out, kind, size as usize, room as usize)
-}
-
-// Whether there was a good vector, so that another may follow.
-fn step(input: &mut impl Read, out: &mut impl Write) -> io::Result<bool> {
-    let mut function = [0u8; 1];
-    if read_full(input, &mut function)? == 0 {
-        return Ok(false);
-    }
-    let good = rest(input, out, function[0])?;
-    if !good {
-        out.write_all(b"bad vector\n")?;
-    }
-    Ok(good)
+fn answer(input: &mut impl Read, out: &mut impl Write, number: u8) -> Result<(), Fault> {
+    let size = read_number(input)? as usize;
+    let room = read_number(input)? as usize;
+    let function = Function::read(input, number)?;
+    let mut all = [0; 65536];
+    let mut digest = [0; 4096];
+    let all = all
+        .get_mut(..function.before().saturating_add(size))
+        .ok_or(Fault::Bad)?;
+    let digest = digest.get_mut(..room).ok_or(Fault::Bad)?;
+    read_all(input, all)?;
+    hash(function, all, digest).ok_or(Fault::Bad)?;
+    put_hex(out, digest)?;
+    writeln!(out)?;
+    out.flush()?;
+    Ok(())
 }
 
 // A proved loop has to end, so it counts up to a number that no run reaches.
 fn main(rt: HostRuntime) -> io::Result<()> {
     let mut input = rt.reader();
-    let mut out = io::writer(&rt);
+    let mut out = Line::new(io::writer(&rt));
     for _ in 0..u64::MAX {
-        if !step(&mut input, &mut out)? {
+        let Some(number) = read_byte(&mut input)? else {
             break;
+        };
+        match answer(&mut input, &mut out, number) {
+            Ok(()) => {}
+            Err(Fault::Io(error)) => return Err(error),
+            Err(Fault::Bad) => {
+                out.write_all(b"bad vector\n")?;
+                break;
+            }
         }
     }
-    Ok(())
+    out.flush()
 }
