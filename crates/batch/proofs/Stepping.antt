@@ -3,13 +3,13 @@ use mathlib.Core.Path.{◌≡◌, refl, sym, ap, ◌∙◌}
 use mathlib.Core.Bool.{Bool, true, false, true≢false}
 use mathlib.Core.List.{List, [], ◌++◌}
 use mathlib.Core.Logic.{◌⊎◌, inl, inr}
-use Prim.Native.Nat.{ℕ, ◌+◌, ◌-◌, ◌^◌, ◌≤◌, ◌<◌}
+use Prim.Native.Nat.{ℕ, ◌-◌, ◌^◌, ◌≤◌, ◌<◌}
 use native.Mathlib.Decide.{dec_lt}
 use native.Mathlib.Omega.{arith}
 use borrow.Author.Tests.{lt-ltb}
 use Rattle.std.proofs.Common.{Result, Ok, Err}
-use lib.ListN.{length, drop, length-append, length-drop}
-use lib.Seq.{drop-length, drop-drop}
+use lib.ListN.{length, length-append}
+use lib.Seq.{drop-length}
 use Rattle.batch.specs.Promises.{Sound, goes_on, to_go}
 use Rattle.batch.specs.Report.{most_triples, added, over, waited, resume}
 use Rattle.batch.specs.Triples.{judged}
@@ -22,7 +22,7 @@ use Rattle.batch.specs.declared.steps.Step.{Step}
 use Rattle.batch.specs.declared.totals.Count.{Count}
 use Rattle.batch.specs.declared.totals.Going.TheVariants.{On, Waiting, Ended, Stopped}
 use Rattle.batch.specs.declared.totals.Totals.{Totals}
-use Rattle.batch.specs.inner.Steps.{Goes, One, by_judged}
+use Rattle.batch.specs.inner.Steps.{One, by_judged}
 use Rattle.batch.specs.inner.Windows.{enough, Small}
 use Rattle.batch.proofs.Counting.{count_full, count_empty, count_stops, window_gains, window_waits, wait_over, wait_more}
 use Rattle.batch.proofs.Soundness.{added_sound}
@@ -156,15 +156,4 @@ rest_step count bytes ended sound off =
     record {
       goes = record { same = λ rest all. refl; within = omega arith; sound = sound };
       nearer = λ on. absurd (true≢false (sym on ∙ off));
-    }
-
--- a step after others
-pub then_step : (count : Count) (bytes : List ℕ) (ended : Bool) (reached : Count) (at : ℕ) (next : Step)
-    → Goes count bytes ended (step reached at) → Goes reached (drop at bytes) ended next
-    → Goes count bytes ended (step next.count (at + next.used))
-then_step count bytes ended reached at next goes more =
-    record {
-      same = λ rest all. goes.same rest all ∙ more.same rest all ∙ rw (drop-drop next.used at bytes);
-      within = omega (arith, goes.within, more.within, length-drop at bytes);
-      sound = more.sound;
     }

@@ -13,13 +13,14 @@ use exchange::record::Kind;
 use hashing::refusal::Refusal;
 use ring::{little_endian, size};
 
-// What the bytes at hand tell of a triple.
+// What the bytes at hand tell of a triple. That it waits is no failure.
 #[derive(Drop)]
 pub enum Look {
     Known(Result<Gain, Stop>),
     Waits(Pending),
 }
 
+// By number, as `in_turn` takes any.
 const THINGS: [u32; 3] = [3, 2, 5];
 
 fn whole(level: u32, bytes: &[u8], used: usize) -> Result<Gain, Stop>

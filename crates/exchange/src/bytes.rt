@@ -4,6 +4,7 @@ ghost use Rattle.ring.specs.Levels.{message_bytes};
 ghost use Rattle.ring.specs.Polynomials.{Tells};
 ghost use Rattle.exchange.specs.Scheme.{xor_bytes};
 
+// The session key, the tail and the report are written here alone.
 pub fn copy(from: &[u8], out: &mut [u8])
     requires { length out.old ≡ length from.now }
     ensures { out.new ≡ from.now }

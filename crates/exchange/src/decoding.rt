@@ -12,7 +12,7 @@ ghost use Rattle.exchange.specs.Promises.{decoding_reasons};
 use crate::decoder::{find, find_early, read_key};
 use ring::words;
 
-// Whether decoding failed; the halves hold what was found, which is nothing then.
+// Whether decoding failed, of which the entry makes its number; the halves hold what was found, which is nothing then.
 pub fn write(level: u32, private_key: &[u8], syndrome: &[u8], e0: &mut [u8], e1: &mut [u8]) -> bool
     requires { first_of (decoding_reasons level private_key.now syndrome.now (length e0.old) (length e1.old)) ≡ 0 }
     ensures { (result ≡ failed bgf (level_of level) (secret (level_of level) private_key.now) (bits 8 syndrome.now))

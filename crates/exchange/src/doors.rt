@@ -61,7 +61,7 @@ fn make_key(
         private_key.len(),
         report.len(),
     )?;
-    write_report(keys::make(level, seed, public_key, private_key)?, report);
+    write_report(keys::judged(level, seed, public_key, private_key)?, report);
     Ok(())
 }
 

@@ -8,9 +8,8 @@ ghost use Rattle.hashing.specs.Refusals.{answer};
 ghost use Rattle.ring.specs.Bytes.{bytes_of};
 ghost use Rattle.ring.specs.Levels.{level_of};
 ghost use Rattle.ring.specs.Polynomials.{support};
-ghost use Rattle.ring.specs.inner.Sizes.{most_d};
 ghost use Rattle.exchange.specs.Fair;
-ghost use Rattle.exchange.specs.Fair.{most_words, mask_of, taken, drawn_for};
+ghost use Rattle.exchange.specs.Fair.{most_words, mask_of, taken, ran_out, drawn_for};
 ghost use Rattle.exchange.specs.Promises.{fair_reasons, fair_work};
 
 use crate::{error, judge};
@@ -120,34 +119,34 @@ pub struct FairCounts {
     pub passed: u32,
 }
 
+// The flag stands beside the words: key making tells what was drawn where they ran out too.
 #[derive(Drop)]
 pub struct FairWords {
     pub words: [u64; WORDS],
+    pub ran_out: bool,
     pub counts: FairCounts,
 }
 
-// One polynomial in words, and what it took; refused where the words ran out before it had its weight.
-pub fn polynomial(level: u32, words: &[u32]) -> Result<FairWords, Refusal>
+// One polynomial in words, and what it took; whether the words ran out before it had its weight.
+pub fn polynomial(level: u32, words: &[u32]) -> FairWords
     requires { length words.now ≤ most_words }
-    ensures answered { answer result ≡ first_of (fair_work (level_of level) words.now) }
-    ensures drawn { IfOk result (λ drawn. (bits 64 drawn.words ≡ support (drawn_for (level_of level) words.now).positions)
-        × (drawn.counts.used ≡ (drawn_for (level_of level) words.now).used)
-        × (drawn.counts.passed ≡ (drawn_for (level_of level) words.now).passed)) }
+    ensures { (bits 64 result.words ≡ support (drawn_for (level_of level) words.now).positions)
+        × (result.ran_out ≡ ran_out (level_of level).d (drawn_for (level_of level) words.now))
+        × (result.counts.used ≡ (drawn_for (level_of level) words.now).used)
+        × (result.counts.passed ≡ (drawn_for (level_of level) words.now).passed) }
 {
     let drawn = positions(level, words);
     let listed = drawn.listed;
-    if listed < size::key_weight(level) {
-        return Err(Refusal::WordsRanOut);
-    }
     let mut placed: [u64; WORDS] = filled(0);
     error::place(&drawn.list[..listed], &mut placed);
-    Ok(FairWords {
+    FairWords {
         words: placed,
+        ran_out: listed < size::key_weight(level),
         counts: FairCounts {
             used: drawn.used as u32,
             passed: (drawn.used - listed) as u32,
         },
-    })
+    }
 }
 
 // One polynomial's bytes, where nothing is refused.
@@ -158,7 +157,10 @@ pub fn write(level: u32, words: &[u32], out: &mut [u8]) -> Result<FairCounts, Re
         × (counts.passed ≡ (drawn_for (level_of level) words.now).passed)) }
 {
     judge::fair(level, words.len(), out.len())?;
-    let drawn = polynomial(level, words)?;
+    let drawn = polynomial(level, words);
+    if drawn.ran_out {
+        return Err(Refusal::WordsRanOut);
+    }
     store(drawn.words, out);
     Ok(drawn.counts)
 }

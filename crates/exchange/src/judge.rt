@@ -1,5 +1,5 @@
-// What each entry refuses, before anything is written: document 01's numbers down the column, the first that applies,
-// or 0. An output comes in by its actual length, its room.
+// What each entry refuses, before anything is written: down document 01's column, the first that applies. An output
+// comes in by its actual length, its room.
 ghost use Rattle.std.specs.Prelude.{◌≡◌, length};
 ghost use Rattle.hashing.specs.Answers.{first_of};
 ghost use Rattle.hashing.specs.Refusals.{answer};

@@ -1,10 +1,10 @@
 // Key making: two sparse polynomials from a seed, the quotient that is public, and the positions that are kept.
-ghost use Rattle.std.specs.Prelude.{◌≡◌, false, ◌++◌, ◌+◌, ◌*◌, ◌≤◌, length, take, IfOk, OnOk};
+ghost use Rattle.std.specs.Prelude.{◌≡◌, false, ◌++◌, ◌+◌, ◌*◌, ◌≤◌, length, take, IfOk};
 ghost use Rattle.hashing.specs.Answers.{first_of};
 ghost use Rattle.hashing.specs.Lists.{bits};
 ghost use Rattle.hashing.specs.Refusals.{answer};
 ghost use Rattle.hashing.specs.Sponge.{shake256};
-ghost use Rattle.ring.specs.Levels.{level_of, message_bytes, tail_bytes};
+ghost use Rattle.ring.specs.Levels.{level_of, message_bytes};
 ghost use Rattle.ring.specs.Polynomials;
 ghost use Rattle.ring.specs.Polynomials.{InRing, weight};
 ghost use Rattle.exchange.specs.Promises.{making_reasons, work_reasons, counts_of};
@@ -61,39 +61,40 @@ pub struct KeyCounts {
     pub passed1: u32,
 }
 
-// Both halves, and what was drawn for them.
+// Both halves, what was drawn for them, and whether the words of one ran out.
 #[derive(Drop)]
 struct KeyHalves {
     words: Pair,
+    ran_out: bool,
     counts: KeyCounts,
 }
 
 // h0 from the first 512 words at most, h1 from the next 512 after those that h0 used.
-fn both_halves(level: u32, seed: &[u8]) -> Result<KeyHalves, Refusal>
+fn both_halves(level: u32, seed: &[u8]) -> KeyHalves
     requires { 32 ≤ length seed.now }
-    ensures answered { answer result ≡ first_of (work_reasons (level_of level) seed.now) }
-    ensures enough { OnOk result (key_ran_out (level_of level) seed.now ≡ false) }
-    ensures drawn { IfOk result (λ drawn. (bits 64 drawn.words.half0 ≡ h0_of (level_of level) seed.now)
-        × (bits 64 drawn.words.half1 ≡ h1_of (level_of level) seed.now)
-        × (counts_of drawn.counts ≡ key_counts (level_of level) seed.now)) }
+    ensures { (bits 64 result.words.half0 ≡ h0_of (level_of level) seed.now)
+        × (bits 64 result.words.half1 ≡ h1_of (level_of level) seed.now)
+        × (result.ran_out ≡ key_ran_out (level_of level) seed.now)
+        × (counts_of result.counts ≡ key_counts (level_of level) seed.now) }
 {
     let bytes = stream(seed);
     let words = words_of(&bytes);
-    let first = fair::polynomial(level, &words[..MOST_WORDS])?;
+    let first = fair::polynomial(level, &words[..MOST_WORDS]);
     let at = first.counts.used as usize;
     let end = at + MOST_WORDS;
-    let second = fair::polynomial(level, &words[at..end])?;
+    let second = fair::polynomial(level, &words[at..end]);
     let half0 = first.words;
     let half1 = second.words;
-    Ok(KeyHalves {
+    KeyHalves {
         words: Pair { half0, half1 },
+        ran_out: first.ran_out | second.ran_out,
         counts: KeyCounts {
             used0: first.counts.used,
             passed0: first.counts.passed,
             used1: second.counts.used,
             passed1: second.counts.passed,
         },
-    })
+    }
 }
 
 // The library's `to_le_bytes` would need the same two stores.
@@ -172,8 +173,38 @@ fn write(level: u32, seed: &[u8], h: Pair, public_key: &mut [u8], private_key: &
     write_private(level, h, &tail, private_key);
 }
 
+// What shows only in the work, and what was drawn for it, which is told after a refusal too.
+#[derive(Drop)]
+pub struct Made {
+    pub answer: Result<(), Refusal>,
+    pub counts: KeyCounts,
+}
+
+// Key making, once it is judged: the keys where words did not run out.
+pub fn make(level: u32, seed: &[u8], public_key: &mut [u8], private_key: &mut [u8]) -> Made
+    requires { first_of (making_reasons level seed.now (length public_key.old) (length private_key.old)) ≡ 0 }
+    ensures { (answer result.answer ≡ first_of (work_reasons (level_of level) seed.now))
+        × (answer result.answer ≡ 0 → (public_key.new ≡ bytes_of (level_of level).r (public_of (level_of level) seed.now))
+        × (private_key.new ≡ private_of (level_of level) seed.now))
+        × (counts_of result.counts ≡ key_counts (level_of level) seed.now) }
+{
+    let drawn = both_halves(level, seed);
+    let counts = drawn.counts;
+    if drawn.ran_out {
+        return Made {
+            answer: Err(Refusal::WordsRanOut),
+            counts,
+        };
+    }
+    write(level, seed, drawn.words, public_key, private_key);
+    Made {
+        answer: Ok(()),
+        counts,
+    }
+}
+
 // Key making: the keys where nothing is refused.
-pub fn make(
+pub fn judged(
     level: u32,
     seed: &[u8],
     public_key: &mut [u8],
@@ -186,7 +217,7 @@ pub fn make(
         × (counts_of counts ≡ key_counts (level_of level) seed.now)) }
 {
     judge::making(level, seed, public_key.len(), private_key.len())?;
-    let drawn = both_halves(level, seed)?;
-    write(level, seed, drawn.words, public_key, private_key);
-    Ok(drawn.counts)
+    let made = make(level, seed, public_key, private_key);
+    made.answer?;
+    Ok(made.counts)
 }

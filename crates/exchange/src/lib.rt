@@ -1,5 +1,6 @@
 // BIKE as document 01 fixes it: key making, wrapping, decoding, opening, and the record reader. An entry is judged
-// first (`judge`); a number that shows only in the work comes after the judge's.
+// first (`judge`); a number that shows only in the work comes after the judge's. Level, keys and buffers stay parameters:
+// C lends each by itself.
 #![tactic(auto)]
 
 pub mod bytes;
@@ -54,7 +55,7 @@ pub fn make_key(
     ensures key_count_promise { KeyCountPromise level seed.now (length public_key.old) (length private_key.old)
         (counts_given result) }
 {
-    let made = keys::make(level, seed, public_key, private_key);
+    let made = keys::judged(level, seed, public_key, private_key);
     if made.is_err() {
         zero(public_key);
         zero(private_key);

@@ -3,7 +3,6 @@ ghost use Rattle.std.specs.Prelude.{◌≡◌, ◌++◌, ◌+◌, ◌≤◌, eqb
 ghost use Rattle.hashing.specs.Answers.{first_of};
 ghost use Rattle.hashing.specs.Lists.{bits};
 ghost use Rattle.hashing.specs.Sponge.{sha3_384};
-ghost use Rattle.ring.specs.Bytes.{bytes_of};
 ghost use Rattle.ring.specs.Levels.{level_of, message_bytes, poly_bytes, ciphertext_bytes};
 ghost use Rattle.ring.specs.Polynomials.{InRing, add, mul, weight};
 ghost use Rattle.exchange.specs.Opening.{either, key_for, opened};

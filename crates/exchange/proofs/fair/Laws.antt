@@ -8,37 +8,16 @@ use native.Mathlib.Nat.{add-zero, not-suc-le-zero}
 use native.Mathlib.Numerals.{add-one}
 use native.Mathlib.Omega.{arith}
 use lib.Bits.{bit_and}
-use lib.Dec.{ltb, eqb, lit<}
+use lib.Dec.{ltb, eqb}
 use lib.ListN.{length, get_or, set, take, drop, length-append}
 use lib.Seq.{drop-cons, drop-length, take-suc-set, length-take-le}
 use borrow.Author.Tests.{lt-ltb, le-ltb, ltb-true, eq-eqb, eqb-true}
-use Rattle.hashing.specs.Answers.{first_of}
-use Rattle.hashing.specs.Refusals.{number}
-use Rattle.hashing.specs.declared.refusal.Refusal.{Refusal}
-use Rattle.hashing.proofs.Answers.{clear, numbered}
 use Rattle.ring.specs.Levels.{Level}
 use Rattle.ring.specs.Polynomials.{listed}
 use Rattle.ring.proofs.Bools.{one_true}
 use Rattle.ring.proofs.Upper.{Distinct}
-use Rattle.exchange.specs.Fair.{Drawn, mask_of, taken, draw_one, draw_on, draw, ran_out, drawn_for}
-use Rattle.exchange.specs.Promises.{fair_work}
+use Rattle.exchange.specs.Fair.{Drawn, mask_of, taken, draw_one, draw_on, draw, drawn_for}
 use Rattle.exchange.proofs.sampler.Laws.{listed_snoc, distinct_snoc}
-
--- where a polynomial is refused, and where it is not
-module _ (l : Level) (list : List ℕ) where
-  pub fair_refused : (refusal : Refusal) → number refusal ≡ first_of (fair_work l list)
-      → (ran_out l.d (drawn_for l list) ≡ true) × (number refusal ≡ 10)
-  unfolding fair_work first_of
-  fair_refused refusal = go (ran_out l.d (drawn_for l list)) refl
-    where
-      go : (b : Bool) → ran_out l.d (drawn_for l list) ≡ b → number refusal ≡ first_of (record { applies = b; number = 10 } ∷ [])
-          → (ran_out l.d (drawn_for l list) ≡ true) × (number refusal ≡ 10)
-      go true out ten = (out, ten)
-      go false out none = absurd (numbered refusal none)
-
-  pub fair_enough : 0 ≡ first_of (fair_work l list) → ran_out l.d (drawn_for l list) ≡ false
-  unfolding fair_work
-  fair_enough none = (clear _ _ (lit< tt) (sym none)).0
 
 -- a position is passed over where it is not below r or is listed, and else taken
 module _ (r pos : ℕ) (list : List ℕ) where

@@ -8,14 +8,12 @@ use native.Mathlib.Omega.{arith}
 use lib.ListN.{length, get_or, set, drop, take, length-append}
 use lib.Seq.{length-take-le, take-suc, drop-cons, set_at}
 use borrow.Author.Tests.{ltb-false}
-use Rattle.hashing.specs.Answers.{first_of}
 use Rattle.ring.specs.Levels.{Level, level_of}
 use Rattle.ring.specs.Polynomials.{Poly, InRing, weight, listed, support, has_inverse}
 use Rattle.ring.proofs.Bools.{both_false}
 use Rattle.ring.proofs.Invertible.{light_inverts}
 use Rattle.ring.proofs.Levels.{sizes, d_odd}
 use Rattle.exchange.specs.Fair.{ran_out, drawn_for}
-use Rattle.exchange.specs.Promises.{work_reasons}
 use Rattle.exchange.specs.Scheme.{h0_drawn, h1_drawn, h0_of, h1_of, key_ran_out, two_bytes}
 use Rattle.exchange.proofs.Making.{length-two_bytes, two_bytes-append}
 use Rattle.exchange.proofs.fair.Laws.{Sound, fair_sound}
@@ -67,11 +65,6 @@ half_inverts level half =
 pub h0_inverts : (level : ℕ) (seed : List ℕ) → key_ran_out (level_of level) seed ≡ false
     → has_inverse (level_of level).r (h0_of (level_of level) seed) ≡ true
 h0_inverts level seed enough = half_inverts level (h0_half (level_of level) seed enough)
-
--- so that the work refuses nothing
-pub work_none : (level : ℕ) (seed : List ℕ) → key_ran_out (level_of level) seed ≡ false → first_of (work_reasons (level_of level) seed) ≡ 0
-unfolding work_reasons first_of
-work_none level seed enough = rw (enough, h0_inverts level seed enough)
 
 -- two bytes more: the loop that writes positions
 pub two_more : (i : ℕ) (list out : List ℕ) → i < length list → length out ≡ 2 * length list

@@ -8,10 +8,10 @@ use Rattle.exchange.proofs.make_key.Goals as goal
 pub returns-then-is_err : goal.returns-then-is_err
 unfolding make_key_says
 returns-then-is_err c =
-    let why = failed c.make-made.result (sym c.is_err.ensures.value ∙ c.if-is_err.true) in
-    let first = rw why.1 at c.make-made.ensures.answered in
+    let why = failed c.judged-made.result (sym c.is_err.ensures.value ∙ c.if-is_err.true) in
+    let first = rw why.1 at c.judged-made.ensures.answered in
     record {
-      make_key_promise = rw (why.1, c.zero.ensures, c.zero-then-is_err.ensures, c.make-made.auto.public_key, c.make-made.auto.private_key)
+      make_key_promise = rw (why.1, c.zero.ensures, c.zero-then-is_err.ensures, c.judged-made.auto.public_key, c.judged-made.auto.private_key)
           (sym (refuses _ _ why.0 first));
       key_count_promise = rw why.1 (sym (refuses_reports _ _ _ why.0 first));
     }
@@ -19,8 +19,8 @@ returns-then-is_err c =
 pub returns-else-is_err : goal.returns-else-is_err
 unfolding make_key_says
 returns-else-is_err c =
-    let made = got c.make-made.result (sym c.is_err.ensures.value ∙ c.if-is_err.false) c.make-made.ensures.made in
-    let none = sym (rw made.1 at c.make-made.ensures.answered) in
+    let made = got c.judged-made.result (sym c.is_err.ensures.value ∙ c.if-is_err.false) c.judged-made.ensures.made in
+    let none = sym (rw made.1 at c.judged-made.ensures.answered) in
     let is = made.2 in
     record {
       make_key_promise = rw (made.1, done _ _ none, is.0, is.1);

@@ -77,9 +77,6 @@ thing_at_number Ciphertext = refl
 thing_at_number Message = refl
 thing_at_number SessionKey = refl
 
-pub thing_of_number : (x y : Thing) → thing_number x ≡ thing_number y → x ≡ y
-thing_of_number x y e = sym (thing_at_number x) ∙ ap thing_at e ∙ thing_at_number y
-
 reading_of : Outcome → Result Record Refusal
 reading_of (gives answer values) =
     let value : ℕ → ℕ = λ i. get_or (get_or values 0 []) i 0 in

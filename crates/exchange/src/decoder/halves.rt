@@ -11,8 +11,8 @@ use crate::halves::Pair;
 use hashing::fill::filled;
 use ring::{WORDS, size, words};
 
-// The bits that two polynomials of n words have both. One function for this and `words::sum` would take a closure on two
-// words, and its clauses would be longer than either loop.
+// The bits that two polynomials of n words have both. One function for this and `words::sum` would take a closure on
+// two words, and its clauses would be longer than either loop.
 fn common(a: [u64; WORDS], b: [u64; WORDS], n: usize) -> [u64; WORDS]
     requires { (n ≤ words) × InRing (64 * n) (bits 64 b) }
     ensures { bits 64 result ≡ (λ j. bits 64 a j && bits 64 b j) }

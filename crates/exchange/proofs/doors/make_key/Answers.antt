@@ -27,17 +27,17 @@ same c =
     first_after _ _ (making_numbered _ _ _ _) (making_door_clear _ _ _ _ _ none).0
     ∙ sym (first_after _ _ (making_door_numbered _ _ _ _ _) none)
 
-pub returns-in_err-make-clause-answered : goal.returns-in_err-make-clause-answered
-returns-in_err-make-clause-answered c =
-    hands_on c.from_residual-in_err-make.result _ c.from_residual-in_err-make.ensures.1
-    (c.in_err-make.ensures.answered ∙ same (goal.at.returns-in_err-make-clause-answered c).In_ok-making_door)
+pub returns-in_err-judged-clause-answered : goal.returns-in_err-judged-clause-answered
+returns-in_err-judged-clause-answered c =
+    hands_on c.from_residual-in_err-judged.result _ c.from_residual-in_err-judged.ensures.1
+    (c.in_err-judged.ensures.answered ∙ same (goal.at.returns-in_err-judged-clause-answered c).In_ok-making_door)
 
 pub write_report-requires : goal.write_report-requires
 write_report-requires c = (making_door_clear _ _ _ _ _ (sym c.in_ok-making_door.ensures)).1
 
 pub returns : goal.returns
 returns c =
-    let is = c.in_ok-make.ensures in
+    let is = c.in_ok-judged.ensures in
     record {
       answered = is.answered ∙ same (goal.at.returns c).In_ok-making_door;
       made = (is.made.0, is.made.1, c.write_report.ensures ∙ ap report_of is.made.2);

@@ -1,16 +1,14 @@
 -- `polynomial` sets the bits of the positions that were drawn.
-use mathlib.Core.Path.{◌≡◌, sym, ap, ◌∙◌}
+use mathlib.Core.Path.{◌≡◌, sym, ap, ap₂, ◌∙◌}
 use Prim.Native.Nat.{ℕ, ◌+◌, ◌≤◌}
 use native.Mathlib.Omega.{arith}
+use lib.Dec.{ltb}
 use lib.ListN.{length, replicate, length-replicate}
 use Rattle.ring.specs.Levels.{level_of}
 use Rattle.ring.specs.Polynomials.{support}
 use Rattle.ring.specs.inner.Sizes.{words}
 use Rattle.ring.proofs.Levels.{sizes}
-use Rattle.hashing.specs.Answers.{first_of}
 use Rattle.exchange.specs.Fair.{most_words, ran_out, drawn_for}
-use Rattle.exchange.specs.Promises.{fair_work}
-use borrow.Author.Tests.{lt-ltb, le-ltb}
 use Rattle.exchange.proofs.fair.Laws.{fair_sound, fair_used}
 use Rattle.exchange.proofs.fair.polynomial.Goals as goal
 use Rattle.exchange.proofs.fair.polynomial.Goals.{After-positions-drawn}
@@ -37,19 +35,11 @@ place-requires c =
       fact_2 = rw c.positions-drawn.ensures.0 (λ p listed. let below = (fair_sound l given.words.now).within p listed in omega (arith, long));
     }
 
-pub returns-then-listed-key_weight-clause-answered : goal.returns-then-listed-key_weight-clause-answered
-unfolding fair_work ran_out first_of
-returns-then-listed-key_weight-clause-answered c =
-    rw (← c.positions-drawn.ensures.1, ← c.key_weight.ensures, lt-ltb _ _ c.if-listed-key_weight.true)
-
 pub returns : goal.returns
-unfolding support fair_work ran_out first_of
+unfolding support ran_out
 returns c =
     let is = c.positions-drawn.ensures in
-    record {
-      answered = rw (← is.1, ← c.key_weight.ensures, le-ltb _ _ c.if-listed-key_weight.false);
-      drawn = (rw is.0 at c.place.ensures, is.2, omega (arith, (counted (goal.at.returns c).After-positions-drawn).1));
-    }
+    (rw is.0 at c.place.ensures, ap₂ ltb is.1 c.key_weight.ensures, is.2, omega (arith, (counted (goal.at.returns c).After-positions-drawn).1))
 
 pub overflow_cast-result : goal.overflow_cast-result
 overflow_cast-result c = omega (arith, counted (goal.at.overflow_cast-result c).After-positions-drawn)

@@ -1,26 +1,39 @@
--- `make` writes the keys where its judge finds nothing and no words ran out.
-use mathlib.Core.Path.{sym, ◌∙◌}
+-- `make` refuses with 10 where words ran out; else h0 has an inverse, and it writes the keys.
+use mathlib.Core.Path.{◌≡◌, sym, ◌∙◌}
+use mathlib.Core.Bool.{false}
 use native.Mathlib.Omega.{arith}
-use Rattle.hashing.proofs.Answers.{first_after}
-use Rattle.exchange.proofs.Judged.{hands_on, refuses_first, making_clear, making_numbered}
+use Rattle.hashing.specs.Answers.{first_of}
+use Rattle.ring.specs.Levels.{level_of}
+use Rattle.exchange.specs.Promises.{work_reasons}
+use Rattle.exchange.specs.Scheme.{key_ran_out}
+use Rattle.exchange.proofs.Judged.{making_clear}
+use Rattle.exchange.proofs.keys.Laws.{h0_inverts}
 use Rattle.exchange.proofs.keys.make.Goals as goal
+use Rattle.exchange.proofs.keys.make.Goals.{Else-drawn}
 
-pub returns-in_err-making-clause-answered : goal.returns-in_err-making-clause-answered
-returns-in_err-making-clause-answered c =
-    hands_on c.from_residual.result _ c.from_residual.ensures.1 (refuses_first _ _ c.in_err-making.field-0.0 c.in_err-making.ensures)
+pub returns-then-drawn : goal.returns-then-drawn
+unfolding work_reasons first_of
+returns-then-drawn c =
+    let is = c.both_halves-drawn.ensures in
+    let out = sym is.2 ∙ c.if-drawn.true in
+    (rw out, λ zero. absurd (omega arith), is.3)
 
-pub both_halves-requires : goal.both_halves-requires
-both_halves-requires c = let is = making_clear (sym c.in_ok-making.ensures) in omega (arith, is.seed_size)
+-- no words ran out
+enough : (c : Else-drawn) →
+    let given = c.args in
+    key_ran_out (level_of given.level) given.seed.now ≡ false
+enough c = sym c.both_halves-drawn.ensures.2 ∙ c.if-drawn.false
 
-pub returns-in_err-drawn-clause-answered : goal.returns-in_err-drawn-clause-answered
-returns-in_err-drawn-clause-answered c =
-    hands_on c.from_residual-in_err-drawn.result _ c.from_residual-in_err-drawn.ensures.1
-    (c.in_err-drawn.ensures.answered ∙ sym (first_after _ _ (making_numbered _ _ _ _) (sym c.in_ok-making.ensures)))
+pub write-requires : goal.write-requires
+write-requires c =
+    let is = c.both_halves-drawn.ensures in
+    record { fact_1 = c.requires; fact_2 = enough (goal.at.write-requires c).Else-drawn; fact_3 = (is.0, is.1) }
 
 pub returns : goal.returns
+unfolding work_reasons first_of
 returns c =
-    let is = c.in_ok-drawn.ensures in
-    record {
-      answered = is.answered ∙ sym (first_after _ _ (making_numbered _ _ _ _) (sym c.in_ok-making.ensures));
-      made = (c.write.ensures.0, c.write.ensures.1, is.drawn.2);
-    }
+    let there = h0_inverts _ _ (enough (goal.at.returns c).Else-drawn) in
+    (rw (enough (goal.at.returns c).Else-drawn, there), λ zero. c.write.ensures, c.both_halves-drawn.ensures.3)
+
+pub both_halves-drawn-requires : goal.both_halves-drawn-requires
+both_halves-drawn-requires c = let is = making_clear c.requires in omega arith
