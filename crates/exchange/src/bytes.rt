@@ -4,12 +4,15 @@ ghost use Rattle.ring.specs.Levels.{message_bytes};
 ghost use Rattle.ring.specs.Polynomials.{Tells};
 ghost use Rattle.exchange.specs.Scheme.{xor_bytes};
 
-// The session key, the tail and the report are written here alone.
+// The session key, the tail, the report and a map are written here: byte by byte, since the library's `copy_from_slice`
+// may be a call of memmove, which no C caller has to bring.
 pub fn copy(from: &[u8], out: &mut [u8])
     requires { length out.old ≡ length from.now }
     ensures { out.new ≡ from.now }
 {
-    out.copy_from_slice(from);
+    for i in 0..from.len() {
+        out[i] = from[i];
+    }
 }
 
 pub fn xor(a: &[u8], b: &[u8], out: &mut [u8])

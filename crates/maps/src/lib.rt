@@ -14,6 +14,7 @@ ghost use Rattle.hashing.specs.Refusals.{answer};
 ghost use Rattle.maps.specs.Keeping.{kept};
 ghost use Rattle.maps.specs.Promises.{WriteMapPromise, AcceptMapPromise};
 
+use exchange::bytes::copy;
 use hashing::Refusal;
 use hashing::fill::zero;
 use ring::little_endian;
@@ -55,6 +56,6 @@ pub fn accept_map(
         (answer result) map.new (kept last result) }
 {
     judge::accepting(level, session_key, kart, bytes, map.len(), last)?;
-    map.copy_from_slice(&bytes[parts::MAP_AT..parts::TAG_AT]);
+    copy(&bytes[parts::MAP_AT..parts::TAG_AT], map);
     Ok(little_endian::four(bytes, parts::COUNTER_AT))
 }

@@ -6,6 +6,7 @@ ghost use Rattle.maps.specs.Writes.{map_bytes, tag_at, map_body, map_kind, littl
 
 use crate::parts::{BODY, COUNTER_AT, KART_AT, KIND_AT, MAP_AT, TAG_AT, kind};
 use crate::tag::tag_of;
+use exchange::bytes::copy;
 
 // All that stands before the map: the length 296, the kind, kart number and counter.
 fn head(level: u32, kart: u32, counter: u32) -> [u8; MAP_AT]
@@ -27,7 +28,7 @@ fn cover(level: u32, kart: u32, counter: u32, map: &[u8], out: &mut [u8])
 {
     let (front, rest) = out.split_at_mut(MAP_AT);
     front.copy_from_slice(&head(level, kart, counter));
-    rest.copy_from_slice(map);
+    copy(map, rest);
 }
 
 pub fn write(level: u32, session_key: &[u8], kart: u32, counter: u32, map: &[u8], bytes: &mut [u8])

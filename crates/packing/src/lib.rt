@@ -14,6 +14,7 @@ ghost use Rattle.ring.specs.Levels.{level_of};
 ghost use Rattle.packing.specs.Packing;
 ghost use Rattle.packing.specs.Promises.{pack_reasons, PackPromise, unpack_reasons, UnpackPromise};
 
+use exchange::bytes::copy;
 use exchange::decoder::{is_good, read_key};
 use hashing::Refusal;
 use hashing::fill::zero;
@@ -29,7 +30,7 @@ fn write_packed(level: u32, private_key: &[u8], packed: &mut [u8])
 {
     let n = size::positions(level);
     let (tail, positions) = packed.split_at_mut(TAIL);
-    tail.copy_from_slice(&private_key[2 * n..]);
+    copy(&private_key[2 * n..], tail);
     row::lay(private_key, n, TWO_BYTES, position_bits(level), positions);
 }
 

@@ -32,7 +32,10 @@ pub fn place(t: &mut [u64], b: &[u64], at: usize)
     ensures outside { Outside at (length b.now) t.old t.new }
     ensures by_index { (i : ℕ) → i < length b.now → get_or t.new (at + i) 0 ≡ get_or b.now i 0 }
 {
-    t[at..at + b.len()].copy_from_slice(b);
+    // The library's `copy_from_slice` would be a call of memmove, which no C caller has to bring.
+    for i in 0..b.len() {
+        t[at + i] = b[i];
+    }
 }
 
 // b, with words of 0 behind it.

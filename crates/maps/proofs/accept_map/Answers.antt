@@ -29,10 +29,10 @@ returns-in_err-accepting c =
 
 pub returns : goal.returns
 unfolding accept_map_says counter_in map_in
-returns c = rw (goes_in _ _ (sym c.in_ok-accepting.ensures), c.copy_from_slice.ensures.after, c.four.ensures)
+returns c = rw (goes_in _ _ (sym c.in_ok-accepting.ensures), c.copy.ensures, c.four.ensures)
 
-pub slice_bounds-copy_from_slice-end : goal.slice_bounds-copy_from_slice-end
-slice_bounds-copy_from_slice-end c = omega (arith, (clear (goal.at.slice_bounds-copy_from_slice-end c).In_ok-accepting).form.whole)
+pub slice_bounds-copy-end : goal.slice_bounds-copy-end
+slice_bounds-copy-end c = omega (arith, (clear (goal.at.slice_bounds-copy-end c).In_ok-accepting).form.whole)
 
-pub copy_from_slice-requires : goal.copy_from_slice-requires
-copy_from_slice-requires c = let form = (clear (goal.at.copy_from_slice-requires c).In_ok-accepting).form in simp (length-take, length-drop) (omega (arith, form.whole, form.map_size))
+pub copy-requires : goal.copy-requires
+copy-requires c = let form = (clear (goal.at.copy-requires c).In_ok-accepting).form in simp (length-take, length-drop) (omega (arith, form.whole, form.map_size))

@@ -25,14 +25,14 @@ overflow_mul-n c = omega (arith, sizes c.args.level, c.positions-n.ensures)
 within : (c : After-positions-n) → 2 * c.positions-n.result ≤ length c.args.private_key.now
 within c = omega (arith, (pack_clear c.requires).key_size, c.positions-n.ensures)
 
-pub slice_bounds-copy_from_slice-count : goal.slice_bounds-copy_from_slice-count
-slice_bounds-copy_from_slice-count c = within (goal.at.slice_bounds-copy_from_slice-count c).After-positions-n
+pub slice_bounds-copy-count : goal.slice_bounds-copy-count
+slice_bounds-copy-count c = within (goal.at.slice_bounds-copy-count c).After-positions-n
 
-pub slice_bounds-copy_from_slice-start : goal.slice_bounds-copy_from_slice-start
-slice_bounds-copy_from_slice-start c = within (goal.at.slice_bounds-copy_from_slice-start c).After-positions-n
+pub slice_bounds-copy-start : goal.slice_bounds-copy-start
+slice_bounds-copy-start c = within (goal.at.slice_bounds-copy-start c).After-positions-n
 
-pub copy_from_slice-requires : goal.copy_from_slice-requires
-copy_from_slice-requires c =
+pub copy-requires : goal.copy-requires
+copy-requires c =
     let n = c.positions-n in
     let key = c.args.private_key.now in
     c.split_at_mut-tail.ensures.front_len
@@ -59,5 +59,5 @@ returns c =
     let n = c.positions-n in
     let row = rw (n.ensures, c.position_bits.ensures) at c.lay.ensures in
     ap₂ ◌++◌
-    (c.copy_from_slice.ensures.after ∙ take_rest key (2 * n.result) ∙ ap (λ (k : ℕ). drop (2 * k) key) n.ensures)
+    (c.copy.ensures ∙ take_rest key (2 * n.result) ∙ ap (λ (k : ℕ). drop (2 * k) key) n.ensures)
     (packed_row_is (level_of c.args.level) _ key (λ i. (c.type_inv.private_key i).fits) (room (goal.at.returns c).After-split_at_mut-tail) row)

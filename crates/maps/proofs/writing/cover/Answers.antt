@@ -4,4 +4,4 @@ use Rattle.maps.proofs.writing.cover.Goals as goal
 
 pub returns : goal.returns
 unfolding little_bytes covered
-returns c = rw (c.copy_from_slice.ensures.after, c.head.ensures, c.copy_from_slice-2.ensures.after)
+returns c = rw (c.copy_from_slice.ensures.after, c.head.ensures, c.copy.ensures)
