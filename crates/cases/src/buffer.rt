@@ -8,7 +8,12 @@ use std::io::Read;
 // "A buffer has at most 16,384 bytes".
 const MOST: usize = 16384;
 
-pub type Buffer = ArrayVec<u8, MOST>;
+// Lent for a buffer, which takes as much of the front as it needs.
+pub type Room = [u8; MOST];
+
+pub fn blank() -> Room {
+    [0; MOST]
+}
 
 // Entry 13 takes its input as numbers of four bytes each.
 pub type Words = ArrayVec<u32, 4096>;
@@ -28,32 +33,51 @@ fn size(input: &mut impl Read, is_there: bool) -> Result<usize, Fault>
     Ok(n)
 }
 
-// A buffer of the next length, and each byte of it the same.
-fn filled(input: &mut impl Read, is_there: bool, byte: u8) -> Result<Buffer, Fault> {
+// The front of the room that is lent for the next buffer, as long as that is.
+fn part<'a>(
+    input: &mut impl Read,
+    is_there: bool,
+    room: &'a mut Room,
+) -> Result<&'a mut [u8], Fault> {
     let n = size(input, is_there)?;
-    let mut bytes = ArrayVec::from_array_in((), [byte; MOST]);
-    bytes.truncate(n);
-    Ok(bytes)
+    Ok(&mut room[..n])
 }
 
 // An input, or an output that is read before, as a stored map is.
-pub fn read(input: &mut impl Read, is_there: bool) -> Result<Buffer, Fault> {
-    let mut bytes = filled(input, is_there, 0)?;
-    read_all(input, bytes.as_mut_slice())?;
+pub fn read<'a>(
+    input: &mut impl Read,
+    is_there: bool,
+    room: &'a mut Room,
+) -> Result<&'a mut [u8], Fault> {
+    let bytes = part(input, is_there, room)?;
+    read_all(input, bytes)?;
+    Ok(bytes)
+}
+
+// The bytes of words. A length that 4 does not divide is none, and then nothing more is read.
+pub fn read_words<'a>(input: &mut impl Read, room: &'a mut Room) -> Result<&'a mut [u8], Fault> {
+    let bytes = part(input, true, room)?;
+    if bytes.len() % 4 != 0 {
+        return Err(Fault::Bad);
+    }
+    read_all(input, bytes)?;
     Ok(bytes)
 }
 
 // An output before the call: a byte that a refusal forgets shows.
-pub fn marked(input: &mut impl Read, is_there: bool) -> Result<Buffer, Fault> {
-    filled(input, is_there, 0xa5)
+pub fn marked<'a>(
+    input: &mut impl Read,
+    is_there: bool,
+    room: &'a mut Room,
+) -> Result<&'a mut [u8], Fault> {
+    let bytes = part(input, is_there, room)?;
+    bytes.fill(0xa5);
+    Ok(bytes)
 }
 
-// A length that 4 does not divide is none of words.
+// The words of bytes whose length 4 divides (`read_words`).
 pub fn words(bytes: &[u8]) -> Result<Words, Fault> {
-    let (fours, rest) = bytes.as_chunks::<4>();
-    if !rest.is_empty() {
-        return Err(Fault::Bad);
-    }
+    let (fours, _) = bytes.as_chunks::<4>();
     let mut list = ArrayVec::new();
     list.extend(fours.iter().copied().map(u32::from_le_bytes))
         .map_err(|_| Fault::Bad)?;

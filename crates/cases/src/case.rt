@@ -1,5 +1,5 @@
 // One case: its numbers and buffers are read one after the other, the entry is called, and the line is printed.
-use crate::buffer::{marked, read};
+use crate::buffer::{blank, marked, read, read_words};
 use crate::call::{Said, call};
 use crate::entry::Entry;
 use lines::{Fault, put_hex, read_number};
@@ -24,12 +24,13 @@ fn number_in(input: &mut impl Read, is_there: bool) -> Result<u32, Fault> {
 }
 
 impl Case {
-    // The case whose first byte is the entry's number.
+    // The case whose first byte is the entry's number. The level is read first: it stands behind an unknown number too.
     fn read(input: &mut impl Read, entry: u8) -> Result<Case, Fault> {
+        let level = read_number(input)?;
         let entry = Entry::try_from(entry)?;
         Ok(Case {
             entry,
-            level: read_number(input)?,
+            level,
             first: number_in(input, entry.numbers() > 0)?,
             second: number_in(input, entry.numbers() == 2)?,
         })
@@ -50,11 +51,15 @@ fn put_line(
     ordinal: u64,
     entry: Entry,
     said: &Said,
-    outs: [&[u8]; 2],
+    out0: &[u8],
+    out1: &[u8],
 ) -> io::Result<()> {
     write!(out, "{ordinal} {} {}", entry.number(), said.answer)?;
-    for bytes in outs.iter().take(entry.outputs()) {
-        put_out(out, bytes)?;
+    if entry.outputs() > 0 {
+        put_out(out, out0)?;
+    }
+    if entry.outputs() == 2 {
+        put_out(out, out1)?;
     }
     for number in said.numbers.as_slice() {
         write!(out, " {number}")?;
@@ -70,28 +75,24 @@ pub fn answer(
     ordinal: u64,
     entry: u8,
 ) -> Result<(), Fault> {
+    // Before the first read: behind one, arrays are zeroed twice. An ArrayVec for each would be moved besides.
+    let mut room_a = blank();
+    let mut room_b = blank();
+    let mut room0 = blank();
+    let mut room1 = blank();
     let case = Case::read(input, entry)?;
     let entry = case.entry;
-    let a = read(input, true)?;
-    let b = read(input, entry.inputs() == 2)?;
-    let mut out0 = match entry {
-        Entry::AcceptMap => read(input, true)?,
-        _ => marked(input, entry.outputs() > 0)?,
+    let a = match entry {
+        Entry::FairPolynomial => read_words(input, &mut room_a)?,
+        _ => read(input, true, &mut room_a)?,
     };
-    let mut out1 = marked(input, entry.outputs() == 2)?;
-    let said = call(
-        &case,
-        a.as_slice(),
-        b.as_slice(),
-        out0.as_mut_slice(),
-        out1.as_mut_slice(),
-    )?;
-    put_line(
-        out,
-        ordinal,
-        entry,
-        &said,
-        [out0.as_slice(), out1.as_slice()],
-    )?;
+    let b = read(input, entry.inputs() == 2, &mut room_b)?;
+    let out0 = match entry {
+        Entry::AcceptMap => read(input, true, &mut room0)?,
+        _ => marked(input, entry.outputs() > 0, &mut room0)?,
+    };
+    let out1 = marked(input, entry.outputs() == 2, &mut room1)?;
+    let said = call(&case, a, b, out0, out1)?;
+    put_line(out, ordinal, entry, &said, out0, out1)?;
     Ok(())
 }

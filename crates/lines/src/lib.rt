@@ -49,9 +49,32 @@ impl<W: Write + Drop> Write for Line<W> {
     }
 }
 
+fn digit(n: u8) -> u8
+    requires { n < 16 }
+{
+    if n < 10 { b'0' + n } else { b'a' - 10 + n }
+}
+
+// How many bytes become digits before the writer takes them: a call for each byte costs more than its digits.
+const PART: usize = 256;
+
+// Lays the digits of the bytes at the front of the text, and gives how many they are.
+fn lay(bytes: &[u8], text: &mut [u8; 2 * PART]) -> usize
+    requires { length bytes.now ≤ 256 }
+    ensures { result ≤ 512 }
+{
+    for (i, byte) in bytes.iter().enumerate() {
+        text[2 * i] = digit(byte / 16);
+        text[2 * i + 1] = digit(byte % 16);
+    }
+    2 * bytes.len()
+}
+
 pub fn put_hex(out: &mut impl Write, bytes: &[u8]) -> io::Result<()> {
-    for byte in bytes {
-        write!(out, "{byte:02x}")?;
+    let mut text = [0; 2 * PART];
+    for part in bytes.chunks(PART) {
+        let n = lay(part, &mut text);
+        out.write_all(&text[..n])?;
     }
     Ok(())
 }

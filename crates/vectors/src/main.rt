@@ -19,17 +19,17 @@ enum Function {
 }
 
 impl Function {
-    // The function of a number. Its own lengths follow the two that every vector has.
-    fn read(input: &mut impl Read, number: u8) -> Result<Function, Fault> {
-        match number {
-            1 => Ok(Function::Shake256),
-            2 => Ok(Function::Sha3_384),
-            3 => Ok(Function::Kmac256 {
+    // The function of a number, or none. Its own lengths follow the two that every vector has.
+    fn read(input: &mut impl Read, number: u8) -> Result<Option<Function>, Fault> {
+        Ok(match number {
+            1 => Some(Function::Shake256),
+            2 => Some(Function::Sha3_384),
+            3 => Some(Function::Kmac256 {
                 key: read_number(input)? as usize,
                 custom: read_number(input)? as usize,
             }),
-            _ => Err(Fault::Bad),
-        }
+            _ => None,
+        })
     }
 
     // How many bytes stand before the message.
@@ -64,18 +64,21 @@ fn hash(function: Function, all: &[u8], digest: &mut [u8]) -> Option<()> {
     }
 }
 
-// Reads what fills the first buffer, and writes its digest, which fills the other.
+// Reads what fills the first buffer, and writes its digest, which fills the other. A number of no function has a
+// message too, and is found to be none after it.
 fn answer(input: &mut impl Read, out: &mut impl Write, number: u8) -> Result<(), Fault> {
+    // Before the first read: behind one, a function's arrays are zeroed twice.
+    let mut all = [0; 65536];
+    let mut digest = [0; 4096];
     let size = read_number(input)? as usize;
     let room = read_number(input)? as usize;
     let function = Function::read(input, number)?;
-    let mut all = [0; 65536];
-    let mut digest = [0; 4096];
     let all = all
-        .get_mut(..function.before().saturating_add(size))
+        .get_mut(..function.map_or(0, Function::before).saturating_add(size))
         .ok_or(Fault::Bad)?;
     let digest = digest.get_mut(..room).ok_or(Fault::Bad)?;
     read_all(input, all)?;
+    let function = function.ok_or(Fault::Bad)?;
     hash(function, all, digest).ok_or(Fault::Bad)?;
     put_hex(out, digest)?;
     writeln!(out)?;
