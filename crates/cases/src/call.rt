@@ -5,7 +5,10 @@ use crate::buffer::words;
 use crate::case::Case;
 use crate::entry::Entry;
 use arrayvec::ArrayVec;
-use hashing::{Refusal, refusal};
+use exchange::record::Numbers;
+use exchange::{FairCounts, KeyCounts};
+use hashing::Refusal;
+use hashing::refusal::{answer, given};
 use lines::Fault;
 
 // An entry's answer, as the line prints it, and the numbers that it reports.
@@ -24,46 +27,37 @@ fn told(answer: u32, reported: &[u64]) -> Said
 }
 
 fn silent(outcome: Result<(), Refusal>) -> Said {
-    told(refusal::answer(outcome), &[])
+    told(answer(outcome), &[])
 }
 
 fn inverse(level: u32, a: &[u8], out: &mut [u8]) -> Said {
     let inverted = ring::inverse(level, a, out);
-    told(
-        refusal::answer(inverted.answer),
-        &[inverted.products as u64],
-    )
+    told(answer(inverted.answer), &[inverted.products as u64])
 }
 
 fn error_of(level: u32, message: &[u8], e0: &mut [u8], e1: &mut [u8]) -> Said {
-    match exchange::error_of(level, message, e0, e1) {
-        Ok(replaced) => told(0, &[replaced as u64]),
-        Err(refusal) => told(refusal.number(), &[0]),
-    }
+    let outcome = exchange::error_of(level, message, e0, e1);
+    told(answer(outcome), &[given(outcome) as u64])
 }
 
 fn make_key(level: u32, seed: &[u8], public_key: &mut [u8], private_key: &mut [u8]) -> Said {
-    match exchange::make_key(level, seed, public_key, private_key) {
-        Ok(counts) => told(
-            0,
-            &[
-                counts.used0 as u64,
-                counts.passed0 as u64,
-                counts.used1 as u64,
-                counts.passed1 as u64,
-            ],
-        ),
-        Err(refusal) => told(refusal.number(), &[0; 4]),
-    }
+    let outcome = exchange::make_key(level, seed, public_key, private_key);
+    let counts = KeyCounts::given(outcome);
+    told(
+        answer(outcome),
+        &[
+            counts.used0 as u64,
+            counts.passed0 as u64,
+            counts.used1 as u64,
+            counts.passed1 as u64,
+        ],
+    )
 }
 
 fn fair_polynomial(level: u32, bytes: &[u8], out: &mut [u8]) -> Result<Said, Fault> {
-    Ok(
-        match exchange::fair_polynomial(level, words(bytes)?.as_slice(), out) {
-            Ok(counts) => told(0, &[counts.used as u64, counts.passed as u64]),
-            Err(refusal) => told(refusal.number(), &[0; 2]),
-        },
-    )
+    let outcome = exchange::fair_polynomial(level, words(bytes)?.as_slice(), out);
+    let counts = FairCounts::given(outcome);
+    Ok(told(answer(outcome), &[counts.used as u64, counts.passed as u64]))
 }
 
 fn decode_early(
@@ -74,29 +68,23 @@ fn decode_early(
     e1: &mut [u8],
 ) -> Said {
     let decoded = exchange::decode_early(level, private_key, syndrome, e0, e1);
-    told(refusal::answer(decoded.answer), &[decoded.rounds as u64])
+    told(answer(decoded.answer), &[decoded.rounds as u64])
 }
 
-// A refusal leaves the counter as it was.
 fn accept_map(case: &Case, session_key: &[u8], bytes: &[u8], map: &mut [u8]) -> Said {
-    match maps::accept_map(case.level, session_key, case.first, bytes, map, case.second) {
-        Ok(counter) => told(0, &[counter as u64]),
-        Err(refusal) => told(refusal.number(), &[case.second as u64]),
-    }
+    let last = case.second;
+    let outcome = maps::accept_map(case.level, session_key, case.first, bytes, map, last);
+    told(answer(outcome), &[maps::kept(last, outcome) as u64])
 }
 
 fn read_record(bytes: &[u8]) -> Said {
-    match exchange::read_record(bytes) {
-        Ok(found) => told(
-            0,
-            &[
-                found.kind.level as u64,
-                found.kind.thing.number() as u64,
-                found.body as u64,
-            ],
-        ),
-        Err(refusal) => told(refusal.number(), &[0; 3]),
-    }
+    let Numbers {
+        answer,
+        level,
+        thing,
+        body,
+    } = Numbers::of(exchange::read_record(bytes));
+    told(answer, &[level as u64, thing as u64, body as u64])
 }
 
 pub fn call(

@@ -10,7 +10,7 @@ ghost use Rattle.ring.specs.Levels.{level_of};
 ghost use Rattle.ring.specs.Polynomials.{support};
 ghost use Rattle.exchange.specs.Fair;
 ghost use Rattle.exchange.specs.Fair.{most_words, mask_of, taken, ran_out, drawn_for};
-ghost use Rattle.exchange.specs.Promises.{fair_reasons, fair_work};
+ghost use Rattle.exchange.specs.Promises.{fair_reasons, fair_work, fair_given};
 
 use crate::{error, judge};
 use hashing::Refusal;
@@ -113,10 +113,19 @@ fn positions(level: u32, words: &[u32]) -> FairPositions
 }
 
 // The words that a polynomial used, and those of them that it passed over.
-#[derive(Drop)]
+#[derive(Clone, Copy, Default)]
 pub struct FairCounts {
     pub used: u32,
     pub passed: u32,
+}
+
+impl FairCounts {
+    // What the drawing of one polynomial reports: zeros where it refuses.
+    pub fn given(outcome: Result<FairCounts, Refusal>) -> FairCounts
+        ensures { result ≡ fair_given outcome }
+    {
+        outcome.unwrap_or_default()
+    }
 }
 
 // The flag stands beside the words: key making tells what was drawn where they ran out too.

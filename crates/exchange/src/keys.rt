@@ -7,7 +7,7 @@ ghost use Rattle.hashing.specs.Sponge.{shake256};
 ghost use Rattle.ring.specs.Levels.{level_of, message_bytes};
 ghost use Rattle.ring.specs.Polynomials;
 ghost use Rattle.ring.specs.Polynomials.{InRing, weight};
-ghost use Rattle.exchange.specs.Promises.{making_reasons, work_reasons, counts_of};
+ghost use Rattle.exchange.specs.Promises.{making_reasons, work_reasons, counts_of, counts_given};
 ghost use Rattle.ring.specs.Bytes.{bytes_of, numbers};
 ghost use Rattle.exchange.specs.Scheme.{key_words, h0_of, h1_of, public_of, private_of, key_ran_out, key_counts, key_digest, two_bytes, private_key_of};
 
@@ -53,12 +53,21 @@ fn words_of(bytes: &[u8]) -> [u32; KEY_WORDS]
 }
 
 // The words that h0 and h1 used, and those of them that each passed over.
-#[derive(Drop)]
+#[derive(Clone, Copy, Default)]
 pub struct KeyCounts {
     pub used0: u32,
     pub passed0: u32,
     pub used1: u32,
     pub passed1: u32,
+}
+
+impl KeyCounts {
+    // What key making reports: zeros where it refuses.
+    pub fn given(outcome: Result<KeyCounts, Refusal>) -> KeyCounts
+        ensures { result ≡ counts_given outcome }
+    {
+        outcome.unwrap_or_default()
+    }
 }
 
 // Both halves, what was drawn for them, and whether the words of one ran out.

@@ -1,7 +1,8 @@
 // Records: a length, a kind and a body.
-ghost use Rattle.std.specs.Prelude.{◌≡◌, ◌<◌, length};
+ghost use Rattle.std.specs.Prelude.{◌≡◌, ◌<◌, [], ◌∷◌, length};
+ghost use Rattle.hashing.specs.Answers.Outcome.{gives};
 ghost use Rattle.ring.specs.Levels.{level_of};
-ghost use Rattle.exchange.specs.Records.{thing_number, body_bytes, NamesThing, NamesKind, RecordPromise, Lists};
+ghost use Rattle.exchange.specs.Records.{thing_number, body_bytes, NamesThing, NamesKind, outcome_of, RecordPromise, Lists};
 
 use hashing::refusal::Refusal;
 use ring::{level, little_endian, size};
@@ -110,6 +111,37 @@ pub fn read_record(bytes: &[u8]) -> Result<Record, Refusal>
         return Err(Refusal::WrongBody);
     }
     Ok(Record { kind, body })
+}
+
+// A reading by document 01's numbers: 0 and the record's, or a refusal's and zeros.
+#[derive(Clone, Copy)]
+pub struct Numbers {
+    pub answer: u32,
+    pub level: u32,
+    pub thing: u32,
+    pub body: usize,
+}
+
+impl Numbers {
+    #[tactic(auto, unfolding(crate::specs::Records::outcome_of))]
+    pub fn of(reading: Result<Record, Refusal>) -> Numbers
+        ensures { gives result.answer ((result.level ∷ result.thing ∷ result.body ∷ []) ∷ []) ≡ outcome_of reading }
+    {
+        match reading {
+            Ok(Record { kind, body }) => Numbers {
+                answer: 0,
+                level: kind.level,
+                thing: kind.thing.number(),
+                body,
+            },
+            Err(refusal) => Numbers {
+                answer: refusal.number(),
+                level: 0,
+                thing: 0,
+                body: 0,
+            },
+        }
+    }
 }
 
 // A line of a listing: what is read, and where the next record begins: after a refusal, at the end.

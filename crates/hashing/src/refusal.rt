@@ -1,6 +1,6 @@
 // Why an entry refuses.
 ghost use Rattle.std.specs.Prelude.{◌≡◌};
-ghost use Rattle.hashing.specs.Refusals.{number, answer};
+ghost use Rattle.hashing.specs.Refusals.{number, answer, given};
 
 // In the order of the documents' numbers: 1 to 13, and 15.
 #[derive(Clone, Copy, PartialEq, Eq)]
@@ -46,11 +46,18 @@ impl Refusal {
 }
 
 // An entry's answer in numbers: 0, done, or why it refuses.
-pub fn answer(outcome: Result<(), Refusal>) -> u32
+pub fn answer<T: Copy>(outcome: Result<T, Refusal>) -> u32
     ensures { result ≡ answer outcome }
 {
     match outcome {
-        Ok(()) => 0,
+        Ok(_) => 0,
         Err(refusal) => refusal.number(),
     }
+}
+
+// The number that an entry reports: 0 where it refuses.
+pub fn given(outcome: Result<u32, Refusal>) -> u32
+    ensures { result ≡ given outcome }
+{
+    outcome.unwrap_or(0)
 }

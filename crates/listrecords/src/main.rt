@@ -3,21 +3,20 @@
 #![tactic(auto)]
 
 use exchange::record;
-use exchange::record::Line;
+use exchange::record::{Line, Numbers};
 use lines::read_full;
 use std::io;
 use std::io::Write;
 
 // Ordinal, answer, level, thing, body bytes.
 fn print_line(out: &mut impl Write, ordinal: u64, line: &Line) -> io::Result<()> {
-    match line.reading {
-        Ok(found) => {
-            let kind = found.kind;
-            let thing = kind.thing.number();
-            writeln!(out, "{ordinal} 0 {} {thing} {}", kind.level, found.body)
-        }
-        Err(refusal) => writeln!(out, "{ordinal} {} 0 0 0", refusal.number()),
-    }
+    let Numbers {
+        answer,
+        level,
+        thing,
+        body,
+    } = Numbers::of(line.reading);
+    writeln!(out, "{ordinal} {answer} {level} {thing} {body}")
 }
 
 fn list(out: &mut impl Write, bytes: &[u8]) -> io::Result<()> {

@@ -9,7 +9,7 @@ pub mod parts;
 pub mod tag;
 pub mod writing;
 
-ghost use Rattle.std.specs.Prelude.{length};
+ghost use Rattle.std.specs.Prelude.{◌≡◌, length};
 ghost use Rattle.hashing.specs.Refusals.{answer};
 ghost use Rattle.maps.specs.Keeping.{kept};
 ghost use Rattle.maps.specs.Promises.{WriteMapPromise, AcceptMapPromise};
@@ -58,4 +58,11 @@ pub fn accept_map(
     judge::accepting(level, session_key, kart, bytes, map.len(), last)?;
     copy(&bytes[parts::MAP_AT..parts::TAG_AT], map);
     Ok(little_endian::four(bytes, parts::COUNTER_AT))
+}
+
+// The counter to keep, of what the acceptance answers.
+pub fn kept(last: u32, accepted: Result<u32, Refusal>) -> u32
+    ensures { result ≡ kept last accepted }
+{
+    accepted.unwrap_or(last)
 }
