@@ -21,7 +21,7 @@ pub const TAG: usize = 32;
 // The length that the record states.
 pub const BODY: usize = 296;
 
-const THING: u32 = 7;
+pub const THING: u32 = 7;
 
 // The thing in the low byte, the session's level in the high one.
 #[tactic(auto, unfolding(crate::specs::Writes::map_kind))]

@@ -5,16 +5,19 @@ use mathlib.Core.List.{List, [], ◌∷◌, ◌++◌, append_assoc}
 use Prim.Native.Nat.{ℕ, suc, ◌+◌, ◌*◌, ◌/◌, ◌%◌, ◌≤◌, ◌<◌}
 use native.Mathlib.Numerals.{add-one}
 use native.Mathlib.Omega.{arith}
+use lib.Dec.{lit≤}
 use lib.ListN.{length, get_or, set, drop, take, length-append}
 use lib.Seq.{length-take-le, take-suc, drop-cons, set_at}
 use borrow.Author.Tests.{ltb-false}
-use Rattle.ring.specs.Levels.{Level, level_of}
+use Rattle.hashing.specs.Sponge.{sha3_384}
+use Rattle.hashing.proofs.sponge.Squeezing.{sha3_384-length}
+use Rattle.ring.specs.Levels.{Level, level_of, message_bytes}
 use Rattle.ring.specs.Polynomials.{Poly, InRing, weight, listed, support, has_inverse}
 use Rattle.ring.proofs.Bools.{both_false}
 use Rattle.ring.proofs.Invertible.{light_inverts}
 use Rattle.ring.proofs.Levels.{sizes, d_odd}
 use Rattle.exchange.specs.Fair.{ran_out, drawn_for}
-use Rattle.exchange.specs.Scheme.{h0_drawn, h1_drawn, h0_of, h1_of, key_ran_out, two_bytes}
+use Rattle.exchange.specs.Scheme.{h0_drawn, h1_drawn, h0_of, h1_of, key_ran_out, key_digest, two_bytes}
 use Rattle.exchange.proofs.Making.{length-two_bytes, two_bytes-append}
 use Rattle.exchange.proofs.fair.Laws.{Sound, fair_sound}
 use Rattle.exchange.proofs.sampler.Laws.{distinct_weight}
@@ -65,6 +68,10 @@ half_inverts level half =
 pub h0_inverts : (level : ℕ) (seed : List ℕ) → key_ran_out (level_of level) seed ≡ false
     → has_inverse (level_of level).r (h0_of (level_of level) seed) ≡ true
 h0_inverts level seed enough = half_inverts level (h0_half (level_of level) seed enough)
+
+pub key_digest-length : (public : List ℕ) → length (key_digest public) ≡ message_bytes
+unfolding key_digest
+key_digest-length public = length-take-le message_bytes (sha3_384 public) (rw (sha3_384-length public) (lit≤ tt))
 
 -- two bytes more: the loop that writes positions
 pub two_more : (i : ℕ) (list out : List ℕ) → i < length list → length out ≡ 2 * length list

@@ -12,7 +12,7 @@ use Rattle.hashing.specs.declared.sponge.Sponge.{Sponge}
 use Rattle.hashing.specs.Keccak.{keccak_f}
 use Rattle.hashing.specs.Lists.{tab}
 use Rattle.hashing.specs.inner.Running.{drawn}
-use Rattle.hashing.specs.Sponge.{byte_of, soaked, permuted, squeezed, sponge}
+use Rattle.hashing.specs.Sponge.{byte_of, soaked, permuted, squeezed, sponge, shake256, sha3_384}
 use Rattle.hashing.proofs.Lists.{tab_ext, length-tab, get_or-tab}
 use Rattle.hashing.proofs.Lists.{tab-append, take-tab, drop-tab}
 use Rattle.hashing.proofs.sponge.Absorbing.{held}
@@ -114,3 +114,12 @@ module _ (rate : ℕ) (suffix : ℕ) (M : List ℕ) (n : ℕ) {s : Sponge} (at-h
   ready_drawn (suc m) some h =
       let at = within m (omega arith) in
       rw (add-suc n m, at.0, at.1, add-suc s.place m) (ap (λ (t : Sponge). held t.lanes (suc (s.place + m))) at-hand)
+
+-- the two hashes
+pub shake256-length : (M : List ℕ) (n : ℕ) → length (shake256 M n) ≡ n
+unfolding shake256
+shake256-length = sponge-length 136 (lit< tt) 0x1f
+
+pub sha3_384-length : (M : List ℕ) → length (sha3_384 M) ≡ 48
+unfolding sha3_384
+sha3_384-length M = sponge-length 104 (lit< tt) 0x06 M 48

@@ -1,15 +1,16 @@
 -- Laws of lists of words in parts, and of products of their halves. Assumes nothing.
 use mathlib.Core.Path.{◌≡◌, sym, ap, ap₂, ◌∙◌, fun_ext}
 use mathlib.Core.Bool.{Bool, false}
-use mathlib.Core.List.{List, ◌++◌}
+use mathlib.Core.List.{List, ◌++◌, append-nil}
 use Prim.Native.Nat.{ℕ, zero, ◌+◌, ◌-◌, ◌*◌, ◌/◌, ◌%◌, ◌^◌, ◌≤◌, ◌<◌}
 use native.Mathlib.Nat.{mul_comm, mul_assoc}
 use native.Mathlib.Decide.{dec_lt}
 use native.Mathlib.Omega.{arith}
+use borrow.Rule.Slice.PartMut.{put_mid, take_put}
 use lib.Dec.{lit<}
-use lib.ListN.{length, get_or, take, drop, replicate, length-drop, get_or-append}
+use lib.ListN.{length, get_or, take, drop, replicate, length-append, length-drop, drop_of_length-le, get_or-append}
 use lib.Pow.{pow-add}
-use lib.Seq.{get_or-take, get_or-drop, length-take-le, take_all, take-append_seam, get_or-append-add}
+use lib.Seq.{get_or-take, get_or-drop, length-take-le, take_all, take-append_seam, drop-append_seam, get_or-append-add}
 use Rattle.hashing.specs.Lists.{bit_at, bits}
 use Rattle.hashing.proofs.Words.{bit_zero, bits_at, bits_out, zero_at}
 use Rattle.ring.specs.Polynomials.{Poly, InRing, flip, add}
@@ -149,6 +150,25 @@ joined h c m m1 c1 long room same sums whole =
     (front_add (2 * h) m m1 (add (bits 64 (take (2 * h) c)) (bits 64 (drop (2 * h) c))) room (omega arith) (sum_in (2 * h) c (omega arith))
     (sums ∙ add_assoc (bits 64 m) (bits 64 (take (2 * h) c)) (bits 64 (drop (2 * h) c)))
     ∙ sym (add_assoc (bits 64 (take (2 * h) m)) (bits 64 (take (2 * h) c)) (bits 64 (drop (2 * h) c))))
+
+-- x comes back to the first half of c, and y to the other
+pub replaced_long : (n : ℕ) (c x : List ℕ) → length c ≡ 2 * n → length x ≡ n → length (x ++ drop n c) ≡ 2 * n
+replaced_long n c x long first = omega (arith, length-append x (drop n c), back_long n c long)
+
+pub both_back : (n : ℕ) (c x y : List ℕ) → length c ≡ 2 * n → length x ≡ n
+    → let d = put_mid n (length (x ++ drop n c) - n) (x ++ drop n c) y in (take n d ≡ x) × (drop n d ≡ y)
+both_back n c x y long first = (
+  take_put n (length d - n) d y (omega (arith, long_d)) ∙ front_is n c x first,
+  ap (λ (m : ℕ). drop m (take n d ++ (y ++ drop (length d - n) (drop n d)))) (sym (length-take-le n d (omega (arith, long_d))))
+      ∙ drop-append_seam (take n d) (y ++ drop (length d - n) (drop n d))
+      ∙ ap (◌++◌ y) (drop_of_length-le (drop n d) {i = length d - n} (omega (arith, length-drop n d))) ∙ append-nil y,
+)
+  where
+    d : List ℕ
+    d = x ++ drop n c
+
+    long_d : length d ≡ 2 * n
+    long_d = replaced_long n c x long first
 
 -- c has the products of the halves, one above the other; m, that of their sums, is joined to them
 pub halves_product : (h : ℕ) (a b c c1 : List ℕ) (m : Poly) → length a ≡ 2 * h → length b ≡ 2 * h → length c ≡ 4 * h

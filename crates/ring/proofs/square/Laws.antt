@@ -134,3 +134,10 @@ upper_word d middle i w h shows halves =
       (halves k below).0 ∙ sym (bits_at 64 d i (k + 32) refl (omega arith)) ∙ ap (bits 64 d) place,
       (halves k below).1 ∙ shows (k + 32) (omega arith) ∙ ap (λ (j : ℕ). bits 64 d (middle + j)) place,
     ))
+
+-- a factor of 1 is not 0
+pub unit_pos : (r m n : ℕ) → (m * n) % r ≡ 1 → 0 < n
+unit_pos r m zero unit =
+    let wrong : ◌≡◌ {A = ℕ} 0 1 = sym (zero-mod r) ∙ ap (λ (p : ℕ). p % r) (sym (mul-zero m)) ∙ unit in
+    omega arith
+unit_pos r m (suc n) unit = zero-lt-suc n
