@@ -43,7 +43,7 @@ fn write_unpacked(level: u32, packed: &[u8], private_key: &mut [u8])
     let (tail, row) = packed.split_at(TAIL);
     let (positions, rest) = private_key.split_at_mut(2 * n);
     row::lay(row, n, position_bits(level), TWO_BYTES, positions);
-    rest.copy_from_slice(tail);
+    copy(tail, rest);
 }
 
 // The packed form of a private key.

@@ -33,8 +33,8 @@ lay-requires c =
     let w = c.position_bits.ensures in
     record { fact_1 = (omega arith, omega arith, omega arith, omega arith); fact_2 = omega arith }
 
-pub copy_from_slice-requires : goal.copy_from_slice-requires
-copy_from_slice-requires c =
+pub copy-requires : goal.copy-requires
+copy-requires c =
     omega (arith, c.split_at_mut-positions.ensures.back_len, c.split_at.ensures.front_len, (unpack_clear c.requires).room_is, c.positions-n.ensures)
 
 pub returns : goal.returns
@@ -44,4 +44,4 @@ returns c =
     let row = rw (n, c.position_bits.ensures, c.split_at.ensures.back) at c.lay.ensures in
     ap₂ ◌++◌
     (two_bytes_are (level_of c.args.level) _ (row_part c.args.packed.now) (width c.args.level).most (rw n at c.split_at_mut-positions.ensures.front_len) row)
-    (c.copy_from_slice.ensures.after ∙ c.split_at.ensures.front)
+    (c.copy.ensures ∙ c.split_at.ensures.front)
